@@ -1,0 +1,41 @@
+-- options, lists and blocks
+pub mod Options
+pub mod Base
+-- what is written is read back, what is read is valid, and where it stands
+pub mod Words
+pub mod RoundTrip
+pub mod Accepted
+pub mod Places
+pub mod Fetching
+-- check accepts exactly woven code
+pub mod Targets
+pub mod WovenCode
+pub mod CheckWalk
+pub mod CheckEntries
+pub mod CheckMethod
+pub mod Unweave
+-- a woven applet is valid
+pub mod WovenValid
+-- runs of the woven and of the plain applet
+pub mod Simulation
+pub mod SimulationSteps
+pub mod Faithful
+pub mod FaithfulRuns
+pub mod Transparent
+-- enforcement over files
+pub mod EnforcedFiles
+-- the three kinds show what they must
+pub mod BlockRuns
+pub mod Tidy
+pub mod RuleBlocks
+pub mod TableBlocks
+pub mod PairBlocks
+-- policy files
+pub mod PolicyRoundTrip
+pub mod PolicyAccepted
+pub mod EnforcedPolicies
+-- the watch
+pub mod Watch
+-- examples
+pub mod Rehearsal
+pub mod RefusedFiles

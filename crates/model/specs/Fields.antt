@@ -1,0 +1,105 @@
+-- Rows of fields, and what reading them gives.
+use mathlib.Core.Bool.{Bool, true, false, cond, _&&_}
+use mathlib.Core.List.{List, [], _∷_}
+use Prim.Native.Nat.{ℕ, zero, suc, _+_, _/_, _%_, _<_, _≤_}
+use lib.Dec.{eqb, leb}
+use lib.ListN.{length, take, drop}
+use Rattle.std.specs.shelf.Lists.{All}
+use Rattle.std.specs.declared.result.Result.{Result}
+use Rattle.std.specs.declared.result.Result.the-variants.{Ok, Err}
+use Rattle.model.specs.declared.Refusal.{Refusal}
+use Rattle.model.specs.Words.{word, high, low}
+use Rattle.model.specs.declared.Refusal.the-variants.{BadPolicyField, BadPolicySize}
+
+-- a list of bytes
+abbrev pub Bytes : List ℕ → Type 0
+Bytes = All (λ b. b < 256)
+
+-- what is read, or a refusal
+abbrev pub Read : Type 0 → Type 0
+Read A = Result A Refusal
+
+-- refused
+abbrev pub refuse : {A : Type 0} → Refusal → Read A
+refuse r = Err r
+
+-- refused unless the test holds
+abbrev pub need : Bool → Refusal → Read (Unit {0})
+need true r = Ok tt
+need false r = refuse r
+
+infixl 20 _>>=_
+infixl 20 _>>_
+-- one after the other
+unfoldable pub _>>=_ : {A B : Type 0} → Read A → (A → Read B) → Read B
+Ok a >>= f = f a
+Err e >>= f = Err e
+
+-- a test, and then the rest
+abbrev pub _>>_ : {B : Type 0} → Read (Unit {0}) → Read B → Read B
+r >> s = r >>= (λ u. s)
+
+-- from a to b, as a test
+abbrev pub within : ℕ → ℕ → ℕ → Bool
+within a b n = leb a n && leb n b
+
+-- from a to b
+abbrev pub Within : ℕ → ℕ → ℕ → Type 0
+Within a b n = (a ≤ n) × (n ≤ b)
+
+-- a test holds of each
+abbrev pub every : {X : Type 0} → (X → Bool) → List X → Bool
+every f [] = true
+every f (x ∷ xs) = f x && every f xs
+
+-- a to b items of four bytes
+abbrev pub items : ℕ → ℕ → List ℕ → Bool
+items a b c = eqb (length c % 4) 0 && within a b (length c / 4)
+
+-- a field at its place
+pub record Field : Type 0 where
+  pub place : ℕ
+  pub contents : List ℕ
+
+-- a field at its place, and the bytes behind it
+pub record Part : Type 0 where
+  pub place : ℕ
+  pub contents : List ℕ
+  pub rest : List ℕ
+
+-- the place behind a field
+abbrev pub next : Part → ℕ
+next p = p .place + (3 + length (p .contents))
+
+-- the bytes of a holder from place p on are to begin with a field of that tag: if there are none, or it is broken or another, that is refused at p, for the reason why
+unfoldable pub expect : (ℕ → Refusal) → ℕ → ℕ → List ℕ → Read Part
+expect why tag p [] = refuse (why p)
+expect why tag p (t ∷ []) = refuse (why p)
+expect why tag p (t ∷ h ∷ []) = refuse (why p)
+expect why tag p (t ∷ h ∷ l ∷ r) =
+    cond (eqb t tag && leb (word h l) (length r)) (Ok (record { place = p; contents = take (word h l) r; rest = drop (word h l) r })) (refuse (why p))
+
+-- nothing is left over
+unfoldable pub over : (ℕ → Refusal) → ℕ → List ℕ → Read (Unit {0})
+over why p [] = Ok tt
+over why p (b ∷ bs) = refuse (why p)
+
+-- to the end of a policy's holder: at most m fields of that tag, each read by its place and contents
+unfoldable pub fields : {X : Type 0} → ℕ → ℕ → (ℕ → List ℕ → Read X) → ℕ → List ℕ → Read (List X)
+fields m tag one p [] = Ok []
+fields zero tag one p (b ∷ r) = do
+  x ← expect BadPolicyField tag p (b ∷ r)
+  refuse (BadPolicySize p)
+fields (suc m) tag one p (b ∷ r) = do
+  x ← expect BadPolicyField tag p (b ∷ r)
+  y ← one p (x .contents)
+  ys ← fields m tag one (next x) (x .rest)
+  Ok (y ∷ ys)
+
+-- the contents of a field, if they pass a test
+abbrev pub tested : Bool → ℕ → List ℕ → Read Field
+tested t p c = need t (BadPolicySize p) >> Ok (record { place = p; contents = c })
+
+-- a field: its tag, its length in two bytes, its contents
+unfoldable pub field : ℕ → List ℕ → List ℕ
+field tag c = tag ∷ high (length c) ∷ low (length c) ∷ c
