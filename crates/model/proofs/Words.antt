@@ -75,7 +75,7 @@ flat-quads (a ∷ (b ∷ (c ∷ (d ∷ r)))) h = ap {B = List ℕ} (λ t. a ∷ 
 pub signed-quad : (z : ℤ) → SFits w32 z → signed-of (quad-of z) ≡ z
 signed-quad z f = ap (toZ w32) (omega arith) ∙ toZ-ofZ w32 z f
 
-split : {X : Type 0} (P : X → Type 0) (n : ℕ) (xs : List X) → All P (take n xs) → All P (drop n xs) → All P xs
+pub split : {X : Type 0} (P : X → Type 0) (n : ℕ) (xs : List X) → All P (take n xs) → All P (drop n xs) → All P xs
 split P n xs h k = rw (take-append-drop n xs) at (all-append P (take n xs) (drop n xs) h k)
 
 pub same-quad : (q r : Quad) → (q .a ≡ r .a) × (q .b ≡ r .b) × (q .c ≡ r .c) × (q .d ≡ r .d) → q ≡ r
@@ -95,7 +95,7 @@ writes =
     (split Writes 6 (drop 13 table) (omega arith) (λ n x y a b. (refl, refl, ofZ-toZ w16 y b), split Writes 3 (drop 20 table) (omega arith) (λ n x y a b. (refl, refl, operator-there y b), tt)))))
 
 -- what a look-up finds is in the list, under that opcode
-found : (P : Entry → Type 0) (o : ℕ) (es : List Entry) (e : Entry) → All P es → find o es ≡ Some e → P e × (o ≡ e .op)
+pub found : (P : Entry → Type 0) (o : ℕ) (es : List Entry) (e : Entry) → All P es → find o es ≡ Some e → P e × (o ≡ e .op)
 found P o [] e h p = absurd (none-some p)
 found P o (c ∷ cs) e h p = cond-both (eqb o (c .op)) (Some c) (find o cs) (λ r. r ≡ Some e → P e × (o ≡ e .op))
     (λ t q. let z : c ≡ e = cc in rw (← z) (h .0, eqb-true o (c .op) t)) (λ t q. found P o cs e (h .1) q) p

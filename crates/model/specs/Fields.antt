@@ -1,9 +1,9 @@
 -- Rows of fields, and what reading them gives.
 use mathlib.Core.Bool.{Bool, true, false, cond, _&&_}
 use mathlib.Core.List.{List, [], _∷_}
-use Prim.Native.Nat.{ℕ, zero, suc, _+_, _/_, _%_, _<_, _≤_}
-use lib.Dec.{eqb, leb}
-use lib.ListN.{length, take, drop}
+use Prim.Native.Nat.{ℕ, zero, suc, _+_, _-_, _/_, _%_, _<_, _≤_}
+use lib.Dec.{eqb, leb, ltb}
+use lib.ListN.{length, getD, take, drop}
 use Rattle.std.specs.shelf.Lists.{All}
 use Rattle.std.specs.declared.result.Result.{Result}
 use Rattle.std.specs.declared.result.Result.the-variants.{Ok, Err}
@@ -55,6 +55,29 @@ every f (x ∷ xs) = f x && every f xs
 -- a to b items of four bytes
 abbrev pub items : ℕ → ℕ → List ℕ → Bool
 items a b c = eqb (length c % 4) 0 && within a b (length c / 4)
+
+-- the length that the field at place p announces
+abbrev pub size-at : List ℕ → ℕ → ℕ
+size-at f p = word (getD f (p + 1) 0) (getD f (p + 2) 0)
+
+-- what stands at a place of a holder: nothing more, a field that is broken there, or a field by its tag, place and contents
+pub data Standing : Type 0 where
+  nothing : Standing
+  broken : ℕ → Standing
+  found : ℕ → ℕ → List ℕ → Standing
+
+-- what stands at place p of the holder f
+abbrev pub standing : List ℕ → ℕ → Standing
+standing f p =
+    cond (leb (length f) p) nothing
+    (cond (ltb (length f - p) 3) (broken p)
+    (cond (ltb (length f - p - 3) (size-at f p)) (broken p) (found (getD f p 0) p (take (size-at f p) (drop (p + 3) f)))))
+
+-- the place behind what stands at place p
+abbrev pub behind : ℕ → Standing → ℕ
+behind p nothing = p
+behind p (broken q) = p
+behind p (found tag q c) = p + 3 + length c
 
 -- a field at its place
 pub record Field : Type 0 where
