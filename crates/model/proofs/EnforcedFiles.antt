@@ -1,6 +1,6 @@
 -- Enforcement over files: what check accepts is woven, and what weave writes check accepts.
 use mathlib.Core.Path.{_≡_, refl, sym, ap, ap₂, _∙_, subst}
-use mathlib.Core.Bool.{Bool, true}
+use mathlib.Core.Bool.{true}
 use mathlib.Core.List.{List, [], _∷_, map}
 use Prim.Native.Nat.{ℕ, _+_, _<_, _≤_}
 use lib.Dec.{leb, ltb}
@@ -10,7 +10,6 @@ use mir.Syntax.{w16}
 use Rattle.std.specs.shelf.Lists.{All}
 use Rattle.std.proofs.shelf.Elements.{all-map, all-append, all-weaker}
 use Rattle.std.proofs.shelf.Signed.{toZ-ofZ}
-use Rattle.std.proofs.shelf.Lists.{nil-from-length}
 use Rattle.std.proofs.shelf.Tests.{ltb-true, leb-true, le-leb, eqb-true, eq-eqb, and-parts, and-from, false≢true}
 use Rattle.std.specs.declared.option.Option.{Option}
 use Rattle.std.specs.declared.option.Option.the-variants.{Some, None}
@@ -24,17 +23,17 @@ use Rattle.model.specs.Machine.{Applet}
 use Rattle.model.specs.Runs.{Accepts}
 use Rattle.model.specs.Weave.{Plain, plain-applet, woven-applet, target, Aims, Targeted, inner, woven}
 use Rattle.model.specs.Words.{table, lands}
-use Rattle.model.specs.declared.Refusal.{Refusal}
 use Rattle.model.specs.declared.Refusal.the-variants.{AreaTooShort}
-use Rattle.model.specs.Fields.{Read, need, _>>=_, _>>_}
-use Rattle.model.specs.Reading.{read-applet, write-applet, Sound, Valid, instr-place}
+use Rattle.model.specs.Fields.{_>>=_}
+use Rattle.model.specs.Reading.{read-applet, Sound, Valid, instr-place}
 use Rattle.model.specs.Check.{Fault, method-fault}
-use Rattle.model.specs.Files.{loaded, load-file, policy-limits, plain-code, plain-codes, plain-of, sized, weave-file, same-cells, fault-at}
+use Rattle.model.specs.Files.{loaded, load-file, policy-limits, weave-file, same-cells, fault-at}
 use Rattle.model.specs.Files.{check-codes, check-applet, longest, check-file}
 use Rattle.model.specs.Enforcement.{run-of, events-of, Enforced, Enforcement}
 use Rattle.model.proofs.Words.{Remade}
 use Rattle.model.proofs.RoundTrip.{round}
 use Rattle.model.proofs.Accepted.{bound, needed, accepted, err-ok}
+use Rattle.model.proofs.Weaving.{then-ok, need-ok, limits-from, writes, written}
 use Rattle.model.proofs.CheckMethod.{accepted-woven, accepts-woven}
 use Rattle.model.proofs.Simulation.{Offers}
 use Rattle.model.proofs.FaithfulRuns.{inside}
@@ -173,47 +172,8 @@ module _ (A : Automaton) (B : Blocks) (S : Offers A B) where
 
 -- ---- files
 
-then-ok : {X Y : Type 0} (r : Read X) (x : X) (f : X → Read Y) → r ≡ Ok x → (r >>= f) ≡ f x
-unfolding _>>=_
-then-ok r x f e = rw e
-
-need-ok : {Y : Type 0} (t : Bool) (r : Refusal) (s : Read Y) → t ≡ true → (need t r >> s) ≡ s
-unfolding _>>=_
-need-ok t r s e = rw e
-
 load-is : (f : List ℕ) (a : Applet) → read-applet f ≡ Ok a → load-file f ≡ Ok (loaded a)
 load-is f a e = then-ok (read-applet f) a (λ a. Ok (loaded a)) e
-
-plain-code-is : (at : ℕ → ℕ) (i : ℕ) (cs : List Instr) (ds : List Own) → plain-code at i cs ≡ Ok ds → map Instr.Own ds ≡ cs
-plain-code-is at i [] ds e = let z : [] ≡ ds = cc in rw (← z) refl
-plain-code-is at i (Instr.Own c ∷ cs) ds e =
-    bound _ _ _ e λ es e₁ e₂.
-    let z : c ∷ es ≡ ds = cc in
-    rw (← z) (ap {B = List Instr} (λ r. Instr.Own c ∷ r) (plain-code-is at (i + 1) cs es e₁))
-plain-code-is at i (Instr.Lock k ∷ cs) ds e = absurd (err-ok e)
-plain-code-is at i (Instr.Unlock ∷ cs) ds e = absurd (err-ok e)
-plain-code-is at i (Instr.Test c ∷ cs) ds e = absurd (err-ok e)
-
-plain-codes-is : (at : ℕ → ℕ → ℕ) (m : ℕ) (cs : List (List Instr)) (ds : List (List Own)) → plain-codes at m cs ≡ Ok ds → map (λ c. map Instr.Own c) ds ≡ cs
-plain-codes-is at m [] ds e = let z : [] ≡ ds = cc in rw (← z) refl
-plain-codes-is at m (c ∷ cs) ds e =
-    bound _ _ _ e λ d e₁ e.
-    bound _ _ _ e λ es e₂ e.
-    let z : d ∷ es ≡ ds = cc in
-    rw (← z) (ap₂ {C = List (List Instr)} (λ x y. x ∷ y) (plain-code-is (at m) 0 c d e₁) (plain-codes-is at (m + 1) cs es e₂))
-
-plain-is : (a : Applet) (p : Plain) → plain-of a ≡ Ok p → plain-applet p ≡ a
-plain-is a p e =
-    needed _ _ _ _ e λ t e.
-    bound _ _ _ e λ cs e₁ e.
-    let s = nil-from-length (a .starts) (eqb-true _ _ t) in
-    let c = plain-codes-is (instr-place a) 0 (a .methods) cs e₁ in
-    let z : record { entries = a .entries; code = cs } ≡ p = cc in
-    let r = sym s in rw (← z) (λ i. record { entries = a .entries; starts = r i; methods = c i })
-
-sized-is : (at : ℕ → ℕ) (m : ℕ) (cs : List (List Instr)) (u : Unit {0}) → sized at m cs ≡ Ok u → All (λ c. length c ≤ 4096) cs
-sized-is at m [] u e = tt
-sized-is at m (c ∷ cs) u e = needed _ _ _ _ e λ t e. (leb-true _ _ t, sized-is at (m + 1) cs u e)
 
 -- what weave reads and writes, where it names no refusal
 record Wove (A : Automaton) (B : Blocks) (f g : List ℕ) : Type 0 where
@@ -233,24 +193,19 @@ module _ (A : Automaton) (B : Blocks) (S : Showing A B) where
 
   wove : (f g : List ℕ) (room : ℕ) → weave-file A B f room ≡ Ok g → Wove A B f g
   wove f g room e =
-      bound _ _ _ e λ u eu e.
-      bound _ _ _ e λ a ea e.
-      bound _ _ _ e λ p ep e.
-      bound _ _ _ e λ v ev e.
-      needed _ _ _ _ e λ t e.
-      needed _ _ _ _ e λ r e.
-      let n = narrow-by u eu in
-      let z = plain-is a p ep in
-      let good = subst Valid (sym z) (accepted f a ea .1) in
-      let better = woven-valid A B (offers n) p good (sized-is _ 0 _ v ev) in
-      let q : write-applet (woven-applet A B p) ≡ g = cc in
+      let w = written A B f g room e in
+      let p = w .0 in
+      let h = w .1 in
+      let n = le-leb _ _ (h .limits .cells) in
+      let good = accepted f (plain-applet p) (h .reads) .1 in
+      let better = woven-valid A B (offers n) p good (h .methods) in
       record {
         narrow = n;
-        limits = eu;
+        limits = limits-from A B (h .limits);
         plain = p;
         good = good;
-        was = ea ∙ ap Ok (sym z);
-        now = ap read-applet (sym q) ∙ round (woven-applet A B p) better (leb-true _ _ t);
+        was = h .reads;
+        now = ap read-applet (sym (w .2)) ∙ round (woven-applet A B p) better (h .short);
       }
 
   targeted : (p : Plain) → Valid (plain-applet p) → All Targeted (p .code)
@@ -279,6 +234,8 @@ module _ (A : Automaton) (B : Blocks) (S : Showing A B) where
           λ xs. subst (λ a. Accepts A (A .starts) (events-of A (run-of (loaded a) xs))) (w .1)
               (inside (record { A = A; B = B; S = O; p = w .0 }) xs),
         );
+    writes = writes A B;
+    written = written A B;
     accepted = λ f g room area e fits.
         let w = wove f g room e in
         check-is g (woven-applet A B (w .plain)) area (w .limits) (w .now) (fits _ (w .now)) ∙ accepts-applet A B (offers (w .narrow)) (w .plain)

@@ -22,6 +22,8 @@ pub mod SimulationSteps
 pub mod Faithful
 pub mod FaithfulRuns
 pub mod Transparent
+-- when weave writes
+pub mod Weaving
 -- enforcement over files
 pub mod EnforcedFiles
 -- the three kinds show what they must

@@ -22,6 +22,8 @@ pub mod Files
 pub mod Rules
 pub mod Tables
 pub mod Kinds
+-- when weave writes, and what
+pub mod Weaving
 -- one policy kept beside a run
 pub mod Watch
 -- what enforcement means, over files and whole runs
