@@ -7,6 +7,7 @@ pub mod RoundTrip
 pub mod Accepted
 pub mod Places
 pub mod Fetching
+pub mod Parts
 -- check accepts exactly woven code
 pub mod Targets
 pub mod WovenCode

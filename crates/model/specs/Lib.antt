@@ -16,6 +16,8 @@ pub mod Refusals
 pub mod Fields
 -- the file of an applet
 pub mod Reading
+-- fields as parts of their file
+pub mod Parts
 -- load, weave and check of files
 pub mod Files
 -- the three kinds of policies, and their files
