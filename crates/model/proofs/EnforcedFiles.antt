@@ -29,7 +29,7 @@ use Rattle.model.specs.Reading.{read-applet, Sound, Valid, instr-place}
 use Rattle.model.specs.Check.{Fault, method-fault}
 use Rattle.model.specs.Files.{loaded, load-file, policy-limits, weave-file, same-cells, fault-at}
 use Rattle.model.specs.Files.{check-codes, check-applet, longest, check-file}
-use Rattle.model.specs.Enforcement.{run-of, events-of, Enforced, Enforcement}
+use Rattle.model.specs.Enforcement.{run-of, events-of, Enforced}
 use Rattle.model.proofs.Words.{Remade}
 use Rattle.model.proofs.RoundTrip.{round}
 use Rattle.model.proofs.Accepted.{bound, needed, accepted, err-ok}
@@ -250,6 +250,3 @@ module _ (A : Automaton) (B : Blocks) (S : Showing A B) where
               (record { A = A; B = B; S = offers (w .narrow); p = w .plain }),
         );
   }
-
-pub enforcement : Enforcement
-enforcement A B S = enforced A B S
