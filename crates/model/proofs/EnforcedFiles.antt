@@ -1,5 +1,5 @@
 -- Enforcement over files: what check accepts is woven, and what weave writes check accepts.
-use mathlib.Core.Path.{_≡_, refl, sym, ap, ap₂, _∙_, subst}
+use mathlib.Core.Path.{_≡_, refl, sym, ap, ap₂, _∙_}
 use mathlib.Core.Bool.{true}
 use mathlib.Core.List.{List, [], _∷_, map}
 use Prim.Native.Nat.{ℕ, _+_, _<_, _≤_}
@@ -20,7 +20,6 @@ use Rattle.model.specs.declared.Test.the-variants.{Skip, Skz, Viol, Mset, Mcel
 use Rattle.model.specs.declared.Instr.{Instr}
 use Rattle.model.specs.Policy.{Automaton, Blocks, Showing, Formed, eqZ}
 use Rattle.model.specs.Machine.{Applet}
-use Rattle.model.specs.Runs.{Accepts}
 use Rattle.model.specs.Weave.{Plain, plain-applet, woven-applet, target, Aims, Targeted, inner, woven}
 use Rattle.model.specs.Words.{table, lands}
 use Rattle.model.specs.declared.Refusal.the-variants.{AreaTooShort}
@@ -29,7 +28,7 @@ use Rattle.model.specs.Reading.{read-applet, Sound, Valid, instr-place}
 use Rattle.model.specs.Check.{Fault, method-fault}
 use Rattle.model.specs.Files.{loaded, load-file, policy-limits, weave-file, same-cells, fault-at}
 use Rattle.model.specs.Files.{check-codes, check-applet, longest, check-file}
-use Rattle.model.specs.Enforcement.{run-of, events-of, Enforced}
+use Rattle.model.specs.Enforcement.{Enforced}
 use Rattle.model.proofs.Words.{Remade}
 use Rattle.model.proofs.RoundTrip.{round}
 use Rattle.model.proofs.Accepted.{bound, needed, accepted, err-ok}
@@ -144,21 +143,22 @@ module _ (A : Automaton) (B : Blocks) (S : Offers A B) where
   fault-none at (Some f) u e = absurd (err-ok e)
 
   codes-woven : (at : ℕ → ℕ → ℕ) (m : ℕ) (cs : List (List Instr)) (u : Unit {0}) → All (All Remade) cs → check-codes A B at m cs ≡ Ok u →
-      (ds : List (List Own)) × (map (woven (A .watched) blk) ds ≡ cs)
-  codes-woven at m [] u h e = ([], refl)
+      (ds : List (List Own)) × (map (woven (A .watched) blk) ds ≡ cs) × All Targeted ds
+  codes-woven at m [] u h e = ([], refl, tt)
   codes-woven at m (c ∷ cs) u h e =
       bound _ _ _ e λ v e₁ e₂.
       let w = accepted-woven (A .watched) blk site-remade c (h .0) (fault-none (at m) (method-fault (A .watched) blk c) v e₁) in
       let rest = codes-woven at (m + 1) cs u (h .1) e₂ in
-      (w .0 ∷ rest .0, ap₂ {C = List (List Instr)} (λ x xs. x ∷ xs) (w .1) (rest .1))
+      (w .0 ∷ rest .0, ap₂ {C = List (List Instr)} (λ x xs. x ∷ xs) (w .1) (rest .1), (w .2, rest .2))
 
   -- what check accepts is the woven applet of a plain one
-  pub accepted-applet : (a : Applet) (u : Unit {0}) → All (All Remade) (a .methods) → check-applet A B a ≡ Ok u → (p : Plain) × (woven-applet A B p ≡ a)
+  pub accepted-applet : (a : Applet) (u : Unit {0}) → All (All Remade) (a .methods) → check-applet A B a ≡ Ok u →
+      (p : Plain) × (woven-applet A B p ≡ a) × All Targeted (p .code)
   accepted-applet a u h e =
       needed _ _ _ _ e λ t e.
       let s = sym (same-cells-true (a .starts) (A .starts) t) in
       let w = codes-woven (instr-place a) 0 (a .methods) u h e in
-      (record { entries = a .entries; code = w .0 }, λ i. record { entries = a .entries; starts = s i; methods = w .1 i })
+      (record { entries = a .entries; code = w .0 }, λ i. record { entries = a .entries; starts = s i; methods = w .1 i }, w .2)
 
   woven-codes : (at : ℕ → ℕ → ℕ) (m : ℕ) (cs : List (List Own)) → All Targeted cs → check-codes A B at m (map (woven (A .watched) blk) cs) ≡ Ok tt
   unfolding _>>=_
@@ -176,13 +176,13 @@ load-is : (f : List ℕ) (a : Applet) → read-applet f ≡ Ok a → load-file f
 load-is f a e = then-ok (read-applet f) a (λ a. Ok (loaded a)) e
 
 -- what weave reads and writes, where it names no refusal
-record Wove (A : Automaton) (B : Blocks) (f g : List ℕ) : Type 0 where
-  narrow : leb (A .width) 32 ≡ true
-  limits : policy-limits A B ≡ Ok tt
-  plain : Plain
-  good : Valid (plain-applet plain)
-  was : read-applet f ≡ Ok (plain-applet plain)
-  now : read-applet g ≡ Ok (woven-applet A B plain)
+pub record Wove (A : Automaton) (B : Blocks) (f g : List ℕ) : Type 0 where
+  pub narrow : leb (A .width) 32 ≡ true
+  pub limits : policy-limits A B ≡ Ok tt
+  pub plain : Plain
+  pub good : Valid (plain-applet plain)
+  pub was : read-applet f ≡ Ok (plain-applet plain)
+  pub now : read-applet g ≡ Ok (woven-applet A B plain)
 
 module _ (A : Automaton) (B : Blocks) (S : Showing A B) where
   offers : leb (A .width) 32 ≡ true → Offers A B
@@ -191,7 +191,7 @@ module _ (A : Automaton) (B : Blocks) (S : Showing A B) where
   narrow-by : (u : Unit {0}) → policy-limits A B ≡ Ok u → leb (A .width) 32 ≡ true
   narrow-by u e = needed _ _ _ _ e λ t r. t
 
-  wove : (f g : List ℕ) (room : ℕ) → weave-file A B f room ≡ Ok g → Wove A B f g
+  pub wove : (f g : List ℕ) (room : ℕ) → weave-file A B f room ≡ Ok g → Wove A B f g
   wove f g room e =
       let w = written A B f g room e in
       let p = w .0 in
@@ -208,7 +208,7 @@ module _ (A : Automaton) (B : Blocks) (S : Showing A B) where
         now = ap read-applet (sym (w .2)) ∙ round (woven-applet A B p) better (h .short);
       }
 
-  targeted : (p : Plain) → Valid (plain-applet p) → All Targeted (p .code)
+  pub targeted : (p : Plain) → Valid (plain-applet p) → All Targeted (p .code)
   targeted p good =
       let n = length (plain-applet p .methods) in
       all-weaker (λ c. Sound n (length (map Instr.Own c)) 0 (map Instr.Own c)) Targeted (sound-targeted n) (p .code)
@@ -218,21 +218,27 @@ module _ (A : Automaton) (B : Blocks) (S : Showing A B) where
       check-file A B g area ≡ check-applet A B a
   check-is g a area l e h = then-ok (policy-limits A B) tt _ l ∙ then-ok (read-applet g) a _ e ∙ need-ok _ AreaTooShort _ (le-leb _ _ h)
 
+  -- what check accepts reads as the woven applet of a plain one
+  pub checked : (f : List ℕ) (area : ℕ) → check-file A B f area ≡ Ok tt →
+      (p : Plain) × Offers A B × (read-applet f ≡ Ok (woven-applet A B p)) × All Targeted (p .code)
+  checked f area e =
+      bound _ _ _ e λ u eu e.
+      bound _ _ _ e λ a ea e.
+      needed _ _ _ _ e λ r e.
+      let O = offers (narrow-by u eu) in
+      let n = length (a .methods) in
+      let good = accepted f a ea .1 in
+      let remade = all-weaker (λ c. Sound n (length c) 0 c) (All Remade) (λ c. sound-remade n (length c) 0 c) (a .methods) (good .sound) in
+      let w = accepted-applet A B O a tt remade e in
+      (w .0, O, ea ∙ ap Ok (sym (w .1)), w .2)
+
   pub enforced : Enforced A B
   enforced = record {
     inside = λ f area e.
-        bound _ _ _ e λ u eu e.
-        bound _ _ _ e λ a ea e.
-        needed _ _ _ _ e λ r e.
-        let O = offers (narrow-by u eu) in
-        let n = length (a .methods) in
-        let good = accepted f a ea .1 in
-        let remade = all-weaker (λ c. Sound n (length c) 0 c) (All Remade) (λ c. sound-remade n (length c) 0 c) (a .methods) (good .sound) in
-        let w = accepted-applet A B O a tt remade e in (
-          loaded a,
-          load-is f a ea,
-          λ xs. subst (λ a. Accepts A (A .starts) (events-of A (run-of (loaded a) xs))) (w .1)
-              (inside (record { A = A; B = B; S = O; p = w .0 }) xs),
+        let w = checked f area e in (
+          loaded (woven-applet A B (w .0)),
+          load-is f _ (w .2),
+          inside (record { A = A; B = B; S = w .1; p = w .0 }),
         );
     writes = writes A B;
     written = written A B;

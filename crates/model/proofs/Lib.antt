@@ -14,7 +14,6 @@ pub mod WovenCode
 pub mod CheckWalk
 pub mod CheckEntries
 pub mod CheckMethod
-pub mod Unweave
 -- a woven applet is valid
 pub mod WovenValid
 -- runs of the woven and of the plain applet
@@ -27,6 +26,8 @@ pub mod Transparent
 pub mod Weaving
 -- enforcement over files
 pub mod EnforcedFiles
+-- stripping undoes weaving
+pub mod Stripping
 -- the three kinds show what they must
 pub mod BlockRuns
 pub mod Tidy

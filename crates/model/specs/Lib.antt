@@ -26,6 +26,8 @@ pub mod Tables
 pub mod Kinds
 -- when weave writes, and what
 pub mod Weaving
+-- what was woven, stripped of its sites
+pub mod Stripping
 -- one policy kept beside a run
 pub mod Watch
 -- what enforcement means, over files and whole runs
