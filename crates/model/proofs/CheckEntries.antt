@@ -15,16 +15,11 @@ use Rattle.model.specs.declared.Test.{Test}
 use Rattle.model.specs.declared.Instr.{Instr}
 use Rattle.model.specs.Weave.{target, retarget, Watched, watched-call, inner, site, behind, piece, more, size, laid, start}
 use Rattle.model.specs.Check.{Fault, fault, is-entry, marks, stray}
+use Rattle.model.specs.Stripping.{rank}
 use Rattle.model.proofs.Targets.{Calls, calls, more-retarget}
 use Rattle.model.proofs.WovenCode.{behind-is}
 use Rattle.model.proofs.Options.{never}
 use Rattle.model.specs.declared.Refusal.the-variants.{NoEntry}
-
--- the number of entries before t
-abbrev pub rank : List Bool → ℕ → ℕ
-rank [] t = 0
-rank (e ∷ es) zero = 0
-rank (e ∷ es) (suc t) = cond e (suc (rank es t)) (rank es t)
 
 rank-pad : (n : ℕ) (es : List Bool) (t : ℕ) → getD (replicate n false ++ es) t false ≡ true →
     (s : ℕ) × (t ≡ n + s) × (getD es s false ≡ true) × (rank (replicate n false ++ es) t ≡ rank es s)

@@ -1,6 +1,6 @@
 -- Enforcement over files: what check accepts is woven, and what weave writes check accepts.
-use mathlib.Core.Path.{_≡_, refl, sym, ap, ap₂, _∙_, subst}
-use mathlib.Core.Bool.{Bool, true}
+use mathlib.Core.Path.{_≡_, refl, sym, ap, ap₂, _∙_}
+use mathlib.Core.Bool.{true}
 use mathlib.Core.List.{List, [], _∷_, map}
 use Prim.Native.Nat.{ℕ, _+_, _<_, _≤_}
 use lib.Dec.{leb, ltb}
@@ -10,7 +10,6 @@ use mir.Syntax.{w16}
 use Rattle.std.specs.shelf.Lists.{All}
 use Rattle.std.proofs.shelf.Elements.{all-map, all-append, all-weaker}
 use Rattle.std.proofs.shelf.Signed.{toZ-ofZ}
-use Rattle.std.proofs.shelf.Lists.{nil-from-length}
 use Rattle.std.proofs.shelf.Tests.{ltb-true, leb-true, le-leb, eqb-true, eq-eqb, and-parts, and-from, false≢true}
 use Rattle.std.specs.declared.option.Option.{Option}
 use Rattle.std.specs.declared.option.Option.the-variants.{Some, None}
@@ -21,20 +20,19 @@ use Rattle.model.specs.declared.Test.the-variants.{Skip, Skz, Viol, Mset, Mcel
 use Rattle.model.specs.declared.Instr.{Instr}
 use Rattle.model.specs.Policy.{Automaton, Blocks, Showing, Formed, eqZ}
 use Rattle.model.specs.Machine.{Applet}
-use Rattle.model.specs.Runs.{Accepts}
 use Rattle.model.specs.Weave.{Plain, plain-applet, woven-applet, target, Aims, Targeted, inner, woven}
 use Rattle.model.specs.Words.{table, lands}
-use Rattle.model.specs.declared.Refusal.{Refusal}
 use Rattle.model.specs.declared.Refusal.the-variants.{AreaTooShort}
-use Rattle.model.specs.Fields.{Read, need, _>>=_, _>>_}
-use Rattle.model.specs.Reading.{read-applet, write-applet, Sound, Valid, instr-place}
+use Rattle.model.specs.Fields.{_>>=_}
+use Rattle.model.specs.Reading.{read-applet, Sound, Valid, instr-place}
 use Rattle.model.specs.Check.{Fault, method-fault}
-use Rattle.model.specs.Files.{loaded, load-file, policy-limits, plain-code, plain-codes, plain-of, sized, weave-file, same-cells, fault-at}
+use Rattle.model.specs.Files.{loaded, load-file, policy-limits, weave-file, same-cells, fault-at}
 use Rattle.model.specs.Files.{check-codes, check-applet, longest, check-file}
-use Rattle.model.specs.Enforcement.{run-of, events-of, Enforced, Enforcement}
+use Rattle.model.specs.Enforcement.{Enforced}
 use Rattle.model.proofs.Words.{Remade}
 use Rattle.model.proofs.RoundTrip.{round}
 use Rattle.model.proofs.Accepted.{bound, needed, accepted, err-ok}
+use Rattle.model.proofs.Weaving.{then-ok, need-ok, limits-from, writes, written}
 use Rattle.model.proofs.CheckMethod.{accepted-woven, accepts-woven}
 use Rattle.model.proofs.Simulation.{Offers}
 use Rattle.model.proofs.FaithfulRuns.{inside}
@@ -145,21 +143,22 @@ module _ (A : Automaton) (B : Blocks) (S : Offers A B) where
   fault-none at (Some f) u e = absurd (err-ok e)
 
   codes-woven : (at : ℕ → ℕ → ℕ) (m : ℕ) (cs : List (List Instr)) (u : Unit {0}) → All (All Remade) cs → check-codes A B at m cs ≡ Ok u →
-      (ds : List (List Own)) × (map (woven (A .watched) blk) ds ≡ cs)
-  codes-woven at m [] u h e = ([], refl)
+      (ds : List (List Own)) × (map (woven (A .watched) blk) ds ≡ cs) × All Targeted ds
+  codes-woven at m [] u h e = ([], refl, tt)
   codes-woven at m (c ∷ cs) u h e =
       bound _ _ _ e λ v e₁ e₂.
       let w = accepted-woven (A .watched) blk site-remade c (h .0) (fault-none (at m) (method-fault (A .watched) blk c) v e₁) in
       let rest = codes-woven at (m + 1) cs u (h .1) e₂ in
-      (w .0 ∷ rest .0, ap₂ {C = List (List Instr)} (λ x xs. x ∷ xs) (w .1) (rest .1))
+      (w .0 ∷ rest .0, ap₂ {C = List (List Instr)} (λ x xs. x ∷ xs) (w .1) (rest .1), (w .2, rest .2))
 
   -- what check accepts is the woven applet of a plain one
-  pub accepted-applet : (a : Applet) (u : Unit {0}) → All (All Remade) (a .methods) → check-applet A B a ≡ Ok u → (p : Plain) × (woven-applet A B p ≡ a)
+  pub accepted-applet : (a : Applet) (u : Unit {0}) → All (All Remade) (a .methods) → check-applet A B a ≡ Ok u →
+      (p : Plain) × (woven-applet A B p ≡ a) × All Targeted (p .code)
   accepted-applet a u h e =
       needed _ _ _ _ e λ t e.
       let s = sym (same-cells-true (a .starts) (A .starts) t) in
       let w = codes-woven (instr-place a) 0 (a .methods) u h e in
-      (record { entries = a .entries; code = w .0 }, λ i. record { entries = a .entries; starts = s i; methods = w .1 i })
+      (record { entries = a .entries; code = w .0 }, λ i. record { entries = a .entries; starts = s i; methods = w .1 i }, w .2)
 
   woven-codes : (at : ℕ → ℕ → ℕ) (m : ℕ) (cs : List (List Own)) → All Targeted cs → check-codes A B at m (map (woven (A .watched) blk) cs) ≡ Ok tt
   unfolding _>>=_
@@ -173,56 +172,17 @@ module _ (A : Automaton) (B : Blocks) (S : Offers A B) where
 
 -- ---- files
 
-then-ok : {X Y : Type 0} (r : Read X) (x : X) (f : X → Read Y) → r ≡ Ok x → (r >>= f) ≡ f x
-unfolding _>>=_
-then-ok r x f e = rw e
-
-need-ok : {Y : Type 0} (t : Bool) (r : Refusal) (s : Read Y) → t ≡ true → (need t r >> s) ≡ s
-unfolding _>>=_
-need-ok t r s e = rw e
-
 load-is : (f : List ℕ) (a : Applet) → read-applet f ≡ Ok a → load-file f ≡ Ok (loaded a)
 load-is f a e = then-ok (read-applet f) a (λ a. Ok (loaded a)) e
 
-plain-code-is : (at : ℕ → ℕ) (i : ℕ) (cs : List Instr) (ds : List Own) → plain-code at i cs ≡ Ok ds → map Instr.Own ds ≡ cs
-plain-code-is at i [] ds e = let z : [] ≡ ds = cc in rw (← z) refl
-plain-code-is at i (Instr.Own c ∷ cs) ds e =
-    bound _ _ _ e λ es e₁ e₂.
-    let z : c ∷ es ≡ ds = cc in
-    rw (← z) (ap {B = List Instr} (λ r. Instr.Own c ∷ r) (plain-code-is at (i + 1) cs es e₁))
-plain-code-is at i (Instr.Lock k ∷ cs) ds e = absurd (err-ok e)
-plain-code-is at i (Instr.Unlock ∷ cs) ds e = absurd (err-ok e)
-plain-code-is at i (Instr.Test c ∷ cs) ds e = absurd (err-ok e)
-
-plain-codes-is : (at : ℕ → ℕ → ℕ) (m : ℕ) (cs : List (List Instr)) (ds : List (List Own)) → plain-codes at m cs ≡ Ok ds → map (λ c. map Instr.Own c) ds ≡ cs
-plain-codes-is at m [] ds e = let z : [] ≡ ds = cc in rw (← z) refl
-plain-codes-is at m (c ∷ cs) ds e =
-    bound _ _ _ e λ d e₁ e.
-    bound _ _ _ e λ es e₂ e.
-    let z : d ∷ es ≡ ds = cc in
-    rw (← z) (ap₂ {C = List (List Instr)} (λ x y. x ∷ y) (plain-code-is (at m) 0 c d e₁) (plain-codes-is at (m + 1) cs es e₂))
-
-plain-is : (a : Applet) (p : Plain) → plain-of a ≡ Ok p → plain-applet p ≡ a
-plain-is a p e =
-    needed _ _ _ _ e λ t e.
-    bound _ _ _ e λ cs e₁ e.
-    let s = nil-from-length (a .starts) (eqb-true _ _ t) in
-    let c = plain-codes-is (instr-place a) 0 (a .methods) cs e₁ in
-    let z : record { entries = a .entries; code = cs } ≡ p = cc in
-    let r = sym s in rw (← z) (λ i. record { entries = a .entries; starts = r i; methods = c i })
-
-sized-is : (at : ℕ → ℕ) (m : ℕ) (cs : List (List Instr)) (u : Unit {0}) → sized at m cs ≡ Ok u → All (λ c. length c ≤ 4096) cs
-sized-is at m [] u e = tt
-sized-is at m (c ∷ cs) u e = needed _ _ _ _ e λ t e. (leb-true _ _ t, sized-is at (m + 1) cs u e)
-
 -- what weave reads and writes, where it names no refusal
-record Wove (A : Automaton) (B : Blocks) (f g : List ℕ) : Type 0 where
-  narrow : leb (A .width) 32 ≡ true
-  limits : policy-limits A B ≡ Ok tt
-  plain : Plain
-  good : Valid (plain-applet plain)
-  was : read-applet f ≡ Ok (plain-applet plain)
-  now : read-applet g ≡ Ok (woven-applet A B plain)
+pub record Wove (A : Automaton) (B : Blocks) (f g : List ℕ) : Type 0 where
+  pub narrow : leb (A .width) 32 ≡ true
+  pub limits : policy-limits A B ≡ Ok tt
+  pub plain : Plain
+  pub good : Valid (plain-applet plain)
+  pub was : read-applet f ≡ Ok (plain-applet plain)
+  pub now : read-applet g ≡ Ok (woven-applet A B plain)
 
 module _ (A : Automaton) (B : Blocks) (S : Showing A B) where
   offers : leb (A .width) 32 ≡ true → Offers A B
@@ -231,29 +191,24 @@ module _ (A : Automaton) (B : Blocks) (S : Showing A B) where
   narrow-by : (u : Unit {0}) → policy-limits A B ≡ Ok u → leb (A .width) 32 ≡ true
   narrow-by u e = needed _ _ _ _ e λ t r. t
 
-  wove : (f g : List ℕ) (room : ℕ) → weave-file A B f room ≡ Ok g → Wove A B f g
+  pub wove : (f g : List ℕ) (room : ℕ) → weave-file A B f room ≡ Ok g → Wove A B f g
   wove f g room e =
-      bound _ _ _ e λ u eu e.
-      bound _ _ _ e λ a ea e.
-      bound _ _ _ e λ p ep e.
-      bound _ _ _ e λ v ev e.
-      needed _ _ _ _ e λ t e.
-      needed _ _ _ _ e λ r e.
-      let n = narrow-by u eu in
-      let z = plain-is a p ep in
-      let good = subst Valid (sym z) (accepted f a ea .1) in
-      let better = woven-valid A B (offers n) p good (sized-is _ 0 _ v ev) in
-      let q : write-applet (woven-applet A B p) ≡ g = cc in
+      let w = written A B f g room e in
+      let p = w .0 in
+      let h = w .1 in
+      let n = le-leb _ _ (h .limits .cells) in
+      let good = accepted f (plain-applet p) (h .reads) .1 in
+      let better = woven-valid A B (offers n) p good (h .methods) in
       record {
         narrow = n;
-        limits = eu;
+        limits = limits-from A B (h .limits);
         plain = p;
         good = good;
-        was = ea ∙ ap Ok (sym z);
-        now = ap read-applet (sym q) ∙ round (woven-applet A B p) better (leb-true _ _ t);
+        was = h .reads;
+        now = ap read-applet (sym (w .2)) ∙ round (woven-applet A B p) better (h .short);
       }
 
-  targeted : (p : Plain) → Valid (plain-applet p) → All Targeted (p .code)
+  pub targeted : (p : Plain) → Valid (plain-applet p) → All Targeted (p .code)
   targeted p good =
       let n = length (plain-applet p .methods) in
       all-weaker (λ c. Sound n (length (map Instr.Own c)) 0 (map Instr.Own c)) Targeted (sound-targeted n) (p .code)
@@ -263,22 +218,30 @@ module _ (A : Automaton) (B : Blocks) (S : Showing A B) where
       check-file A B g area ≡ check-applet A B a
   check-is g a area l e h = then-ok (policy-limits A B) tt _ l ∙ then-ok (read-applet g) a _ e ∙ need-ok _ AreaTooShort _ (le-leb _ _ h)
 
+  -- what check accepts reads as the woven applet of a plain one
+  pub checked : (f : List ℕ) (area : ℕ) → check-file A B f area ≡ Ok tt →
+      (p : Plain) × Offers A B × (read-applet f ≡ Ok (woven-applet A B p)) × All Targeted (p .code)
+  checked f area e =
+      bound _ _ _ e λ u eu e.
+      bound _ _ _ e λ a ea e.
+      needed _ _ _ _ e λ r e.
+      let O = offers (narrow-by u eu) in
+      let n = length (a .methods) in
+      let good = accepted f a ea .1 in
+      let remade = all-weaker (λ c. Sound n (length c) 0 c) (All Remade) (λ c. sound-remade n (length c) 0 c) (a .methods) (good .sound) in
+      let w = accepted-applet A B O a tt remade e in
+      (w .0, O, ea ∙ ap Ok (sym (w .1)), w .2)
+
   pub enforced : Enforced A B
   enforced = record {
     inside = λ f area e.
-        bound _ _ _ e λ u eu e.
-        bound _ _ _ e λ a ea e.
-        needed _ _ _ _ e λ r e.
-        let O = offers (narrow-by u eu) in
-        let n = length (a .methods) in
-        let good = accepted f a ea .1 in
-        let remade = all-weaker (λ c. Sound n (length c) 0 c) (All Remade) (λ c. sound-remade n (length c) 0 c) (a .methods) (good .sound) in
-        let w = accepted-applet A B O a tt remade e in (
-          loaded a,
-          load-is f a ea,
-          λ xs. subst (λ a. Accepts A (A .starts) (events-of A (run-of (loaded a) xs))) (w .1)
-              (inside (record { A = A; B = B; S = O; p = w .0 }) xs),
+        let w = checked f area e in (
+          loaded (woven-applet A B (w .0)),
+          load-is f _ (w .2),
+          inside (record { A = A; B = B; S = w .1; p = w .0 }),
         );
+    writes = writes A B;
+    written = written A B;
     accepted = λ f g room area e fits.
         let w = wove f g room e in
         check-is g (woven-applet A B (w .plain)) area (w .limits) (w .now) (fits _ (w .now)) ∙ accepts-applet A B (offers (w .narrow)) (w .plain)
@@ -293,6 +256,3 @@ module _ (A : Automaton) (B : Blocks) (S : Showing A B) where
               (record { A = A; B = B; S = offers (w .narrow); p = w .plain }),
         );
   }
-
-pub enforcement : Enforcement
-enforcement A B S = enforced A B S

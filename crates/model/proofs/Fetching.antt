@@ -151,7 +151,7 @@ applet-stands f a e =
 
 -- ---- one method, one instruction
 
-code-place-more : (c : List Instr) (cs : List (List Instr)) (m : ℕ) → code-place (c ∷ cs) (suc m) ≡ 3 + 4 * length c + code-place cs m
+pub code-place-more : (c : List Instr) (cs : List (List Instr)) (m : ℕ) → code-place (c ∷ cs) (suc m) ≡ 3 + 4 * length c + code-place cs m
 code-place-more c cs m =
     let l = length-map c encode in
     length-append (field 4 (write-code c)) (write-codes (take m cs)) ∙ rw (length-field 4 (write-code c), length-flat (map encode c), l) refl

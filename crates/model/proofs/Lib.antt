@@ -7,13 +7,13 @@ pub mod RoundTrip
 pub mod Accepted
 pub mod Places
 pub mod Fetching
+pub mod Parts
 -- check accepts exactly woven code
 pub mod Targets
 pub mod WovenCode
 pub mod CheckWalk
 pub mod CheckEntries
 pub mod CheckMethod
-pub mod Unweave
 -- a woven applet is valid
 pub mod WovenValid
 -- runs of the woven and of the plain applet
@@ -22,8 +22,12 @@ pub mod SimulationSteps
 pub mod Faithful
 pub mod FaithfulRuns
 pub mod Transparent
+-- when weave writes
+pub mod Weaving
 -- enforcement over files
 pub mod EnforcedFiles
+-- stripping undoes weaving
+pub mod Stripping
 -- the three kinds show what they must
 pub mod BlockRuns
 pub mod Tidy

@@ -16,12 +16,18 @@ pub mod Refusals
 pub mod Fields
 -- the file of an applet
 pub mod Reading
+-- fields as parts of their file
+pub mod Parts
 -- load, weave and check of files
 pub mod Files
 -- the three kinds of policies, and their files
 pub mod Rules
 pub mod Tables
 pub mod Kinds
+-- when weave writes, and what
+pub mod Weaving
+-- what was woven, stripped of its sites
+pub mod Stripping
 -- one policy kept beside a run
 pub mod Watch
 -- what enforcement means, over files and whole runs

@@ -101,6 +101,7 @@ pub record Answers : Type 0 where
   pub plain-size : ℕ
   pub woven-size : ℕ
   pub weaving : Read (List ℕ)
+  pub weaving-ten : Read (List ℕ)
   pub woven : Read (Unit {0})
   pub jump-astray : Read (Unit {0})
   pub other-start : Read (Unit {0})
@@ -120,6 +121,7 @@ computed = record {
   plain-size = length (plain-file 7);
   woven-size = length (woven-file 7);
   weaving = weave-in policy-file (plain-file 7) 91;
+  weaving-ten = weave-in policy-file (plain-file 10) 91;
   woven = check-bytes policy-file None (woven-file 7) 18;
   jump-astray = check-bytes policy-file None (set (woven-file 7) 86 13) 18;
   other-start = check-bytes policy-file None (set (woven-file 7) 15 1) 18;
@@ -140,6 +142,7 @@ expected = record {
   plain-size = 27;
   woven-size = 91;
   weaving = Ok (woven-file 7);
+  weaving-ten = Ok (woven-file 10);
   woven = Ok tt;
   jump-astray = refuse (NoEntry 83);
   other-start = refuse (OtherStarts 9);
