@@ -1,9 +1,10 @@
 -- Fields and their kinds, as the field reader hands them out.
-use mathlib.Core.Bool.{Bool, cond, _||_}
+use mathlib.Core.Path.{_≡_}
+use mathlib.Core.Bool.{cond, true, false}
 use mathlib.Core.List.{List}
 use Prim.Native.Nat.{ℕ}
 use lib.Dec.{eqb}
-use denote.Ref.{now}
+use denote.Ref.{now, RefT}
 use Rattle.std.specs.declared.option.Option.{Option}
 use Rattle.std.specs.declared.option.Option.the-variants.{Some, None}
 use Rattle.std.specs.declared.result.Result.{Result}
@@ -12,46 +13,59 @@ use Rattle.applet.specs.declared.rows.Field.{Field}
 use Rattle.applet.specs.declared.rows.Fault.{Fault}
 use Rattle.applet.specs.declared.rows.Part.{Part}
 use Rattle.applet.specs.declared.rows.Part.the-variants.{Head, Entries, Cells, Method, RulesHead, RulesStarts, Rule, Guard, Update, TableHead, TableRow}
-use Rattle.model.specs.Fields.{Standing, nothing, broken, found}
+use Rattle.model.specs.Fields.{a-tag, Standing, nothing, broken, found}
+
+-- the tag of each kind of field
+abbrev pub part-tag : Part → ℕ
+part-tag (Head c) = 1
+part-tag (Entries c) = 2
+part-tag (Cells c) = 3
+part-tag (Method c) = 4
+part-tag (RulesHead c) = 65
+part-tag (RulesStarts c) = 66
+part-tag (Rule c) = 67
+part-tag (Guard c) = 68
+part-tag (Update c) = 69
+part-tag (TableHead c) = 97
+part-tag (TableRow c) = 98
+
+-- the contents of a field
+abbrev pub part-contents : Part → List ℕ
+part-contents (Head c) = now c
+part-contents (Entries c) = now c
+part-contents (Cells c) = now c
+part-contents (Method c) = now c
+part-contents (RulesHead c) = now c
+part-contents (RulesStarts c) = now c
+part-contents (Rule c) = now c
+part-contents (Guard c) = now c
+part-contents (Update c) = now c
+part-contents (TableHead c) = now c
+part-contents (TableRow c) = now c
+
+-- a field was made of that tag and these contents, or none since files do not have the tag
+abbrev pub made-part : ℕ → List ℕ → Option Part → Type 0
+made-part t c None = a-tag t ≡ false
+made-part t c (Some p) = (part-tag p ≡ t) × (part-contents p ≡ c) × (a-tag t ≡ true)
 
 -- what the field reader found
 abbrev pub stood : Result (Option Field) Fault → Standing
 stood (Ok None) = nothing
-stood (Ok (Some f)) = found (f .tag) (f .place) (now (f .contents))
+stood (Ok (Some f)) = found (part-tag (f .part)) (f .place) (part-contents (f .part))
 stood (Err e) = broken (e .place)
 
--- the tag and the contents of a field
-pub record Tagged : Type 0 where
-  pub tag : ℕ
-  pub contents : List ℕ
+-- the contents of a field that was due, or the place where it was
+pub data Due : Type 0 where
+  contents : List ℕ → Due
+  missing : ℕ → Due
 
--- a tag with contents
-abbrev tagged : ℕ → List ℕ → Option Tagged
-tagged t c = Some (record { tag = t; contents = c })
+-- the field of that tag that is due at place p
+abbrev pub due : ℕ → ℕ → Standing → Due
+due tag p nothing = missing p
+due tag p (broken q) = missing p
+due tag p (found t q c) = cond (eqb t tag) (contents c) (missing p)
 
--- each kind's tag
-abbrev part-tagged : Part → Option Tagged
-part-tagged (Head c) = tagged 1 (now c)
-part-tagged (Entries c) = tagged 2 (now c)
-part-tagged (Cells c) = tagged 3 (now c)
-part-tagged (Method c) = tagged 4 (now c)
-part-tagged (RulesHead c) = tagged 65 (now c)
-part-tagged (RulesStarts c) = tagged 66 (now c)
-part-tagged (Rule c) = tagged 67 (now c)
-part-tagged (Guard c) = tagged 68 (now c)
-part-tagged (Update c) = tagged 69 (now c)
-part-tagged (TableHead c) = tagged 97 (now c)
-part-tagged (TableRow c) = tagged 98 (now c)
-
--- a kind, if there is one, as a tag with contents
-abbrev pub part-of : Option Part → Option Tagged
-part-of None = None
-part-of (Some p) = part-tagged p
-
--- the tags that files have
-abbrev pub a-tag : ℕ → Bool
-a-tag t = eqb t 1 || eqb t 2 || eqb t 3 || eqb t 4 || eqb t 65 || eqb t 66 || eqb t 67 || eqb t 68 || eqb t 69 || eqb t 97 || eqb t 98
-
--- a tag with its contents, if files have it
-abbrev pub known : ℕ → List ℕ → Option Tagged
-known t c = cond (a-tag t) (tagged t c) None
+-- the contents that the field reader handed out
+abbrev pub due-stood : Result (RefT (List ℕ)) Fault → Due
+due-stood (Ok c) = contents (now c)
+due-stood (Err e) = missing (e .place)

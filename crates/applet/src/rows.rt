@@ -1,17 +1,9 @@
 // Fields: a tag, a length in two bytes, the contents.
 ghost use mathlib.Core.Path.{_≡_};
 ghost use Rattle.model.specs.Fields.{standing, behind};
-ghost use Rattle.applet.specs.Parts.{stood, known, part-of};
+ghost use Rattle.applet.specs.Parts.{stood, due-stood, due, part-tag, part-contents, made-part};
 
-// A field, with its place and its contents as a part of the file.
-#[derive(Clone, Copy)]
-pub struct Field<'a> {
-    pub tag: u8,
-    pub place: usize,
-    pub contents: &'a [u8],
-}
-
-// The kinds of field that files have, each with its contents.
+// The kinds of field that files have, each with its contents as a part of the file.
 #[derive(Clone, Copy)]
 pub enum Part<'a> {
     // applets
@@ -30,7 +22,14 @@ pub enum Part<'a> {
     TableRow(&'a [u8]),
 }
 
-// A field that is broken, or of no known kind, by its place.
+// A field at its place.
+#[derive(Clone, Copy)]
+pub struct Field<'a> {
+    pub place: usize,
+    pub part: Part<'a>,
+}
+
+// A field that is missing, broken or not the one that is due, by the place where it is due.
 #[derive(Clone, Copy)]
 pub struct Fault {
     pub place: usize,
@@ -44,25 +43,74 @@ pub struct Fields<'a> {
     at: usize,
 }
 
-impl<'a> Field<'a> {
-    // The field by its kind, if it is of one.
-    pub fn part(&self) -> Option<Part<'a>>
-        ensures { λ r. ⌜ part-of r ≡ known (now (self .entry) .tag) (now (now (self .entry) .contents)) ⌝ }
+impl<'a> Part<'a> {
+    pub const HEAD: u8 = 1;
+    pub const ENTRIES: u8 = 2;
+    pub const CELLS: u8 = 3;
+    pub const METHOD: u8 = 4;
+    pub const RULES_HEAD: u8 = 65;
+    pub const RULES_STARTS: u8 = 66;
+    pub const RULE: u8 = 67;
+    pub const GUARD: u8 = 68;
+    pub const UPDATE: u8 = 69;
+    pub const TABLE_HEAD: u8 = 97;
+    pub const TABLE_ROW: u8 = 98;
+
+    // The field of a tag, if files have it.
+    pub fn new(tag: u8, c: &'a [u8]) -> Option<Part<'a>>
+        ensures { λ r. ⌜ made-part tag (now (c .entry)) r ⌝ }
     {
-        let c = self.contents;
-        match self.tag {
-            1 => Some(Part::Head(c)),
-            2 => Some(Part::Entries(c)),
-            3 => Some(Part::Cells(c)),
-            4 => Some(Part::Method(c)),
-            65 => Some(Part::RulesHead(c)),
-            66 => Some(Part::RulesStarts(c)),
-            67 => Some(Part::Rule(c)),
-            68 => Some(Part::Guard(c)),
-            69 => Some(Part::Update(c)),
-            97 => Some(Part::TableHead(c)),
-            98 => Some(Part::TableRow(c)),
+        match tag {
+            Part::HEAD => Some(Part::Head(c)),
+            Part::ENTRIES => Some(Part::Entries(c)),
+            Part::CELLS => Some(Part::Cells(c)),
+            Part::METHOD => Some(Part::Method(c)),
+            Part::RULES_HEAD => Some(Part::RulesHead(c)),
+            Part::RULES_STARTS => Some(Part::RulesStarts(c)),
+            Part::RULE => Some(Part::Rule(c)),
+            Part::GUARD => Some(Part::Guard(c)),
+            Part::UPDATE => Some(Part::Update(c)),
+            Part::TABLE_HEAD => Some(Part::TableHead(c)),
+            Part::TABLE_ROW => Some(Part::TableRow(c)),
             _ => None,
+        }
+    }
+
+    // The field's tag.
+    pub fn tag(&self) -> u8
+        ensures { λ r. ⌜ r ≡ part-tag (now (self .entry)) ⌝ }
+    {
+        match *self {
+            Part::Head(_) => Part::HEAD,
+            Part::Entries(_) => Part::ENTRIES,
+            Part::Cells(_) => Part::CELLS,
+            Part::Method(_) => Part::METHOD,
+            Part::RulesHead(_) => Part::RULES_HEAD,
+            Part::RulesStarts(_) => Part::RULES_STARTS,
+            Part::Rule(_) => Part::RULE,
+            Part::Guard(_) => Part::GUARD,
+            Part::Update(_) => Part::UPDATE,
+            Part::TableHead(_) => Part::TABLE_HEAD,
+            Part::TableRow(_) => Part::TABLE_ROW,
+        }
+    }
+
+    // The field's contents, as that part of the file.
+    pub fn contents(&self) -> &'a [u8]
+        ensures { λ r. ⌜ now r ≡ part-contents (now (self .entry)) ⌝ }
+    {
+        match *self {
+            Part::Head(c) => c,
+            Part::Entries(c) => c,
+            Part::Cells(c) => c,
+            Part::Method(c) => c,
+            Part::RulesHead(c) => c,
+            Part::RulesStarts(c) => c,
+            Part::Rule(c) => c,
+            Part::Guard(c) => c,
+            Part::Update(c) => c,
+            Part::TableHead(c) => c,
+            Part::TableRow(c) => c,
         }
     }
 }
@@ -103,12 +151,23 @@ impl<'a> Fields<'a> {
         if size - at - 3 < n {
             return Err(Fault { place: at });
         }
-        let contents = &holder[at + 3..at + 3 + n];
+        let Some(part) = Part::new(holder[at], &holder[at + 3..at + 3 + n]) else {
+            return Err(Fault { place: at });
+        };
         self.at = at + 3 + n;
-        Ok(Some(Field {
-            tag: holder[at],
-            place: at,
-            contents,
-        }))
+        Ok(Some(Field { place: at, part }))
+    }
+
+    // The contents of the next field, which is to be of this tag.
+    pub fn due(&mut self, tag: u8) -> Result<&'a [u8], Fault>
+        ensures value { λ r. ⌜ due-stood r ≡ due tag (now (self .entry) .at) (standing (now (now (self .entry) .holder)) (now (self .entry) .at)) ⌝ }
+        ensures holder { λ _. ⌜ now (now (self .exit) .holder) ≡ now (now (self .entry) .holder) ⌝ }
+        ensures at { λ _. ⌜ now (self .exit) .at ≡ behind (now (self .entry) .at) (standing (now (now (self .entry) .holder)) (now (self .entry) .at)) ⌝ }
+    {
+        let place = self.at;
+        match self.next() {
+            Ok(Some(f)) if f.part.tag() == tag => Ok(f.part.contents()),
+            _ => Err(Fault { place }),
+        }
     }
 }

@@ -19,7 +19,8 @@ use Rattle.model.specs.Machine.{Applet}
 use Rattle.model.specs.Words.{word, quads, flat, signed-of}
 use Rattle.model.specs.Fields.{Bytes, Part, Field, refuse, next, expect}
 use Rattle.model.specs.Reading.{read-codes, code-fields, read-applet, write-code, code-place, cells-place, method-place}
-use Rattle.model.specs.Parts.{announced, contents-at, Stands, Handed, AppletParts, PartsOfFiles}
+use Rattle.model.specs.Fields.{announced, contents-at}
+use Rattle.model.specs.Parts.{Stands, Handed, AppletParts, PartsOfFiles}
 use Rattle.model.proofs.Words.{length-flat}
 use Rattle.model.proofs.Accepted.{err-ok, bound, needed, Coded, over-is, read-code-is, code-fields-is, read-codes-is, items-true, head-is, whole-quads, starts-is}
 use Rattle.model.proofs.Fetching.{code-place-more, fetched}

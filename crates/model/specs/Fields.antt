@@ -1,5 +1,5 @@
 -- Rows of fields, and what reading them gives.
-use mathlib.Core.Bool.{Bool, true, false, cond, _&&_}
+use mathlib.Core.Bool.{Bool, true, false, cond, _&&_, _||_}
 use mathlib.Core.List.{List, [], _∷_}
 use Prim.Native.Nat.{ℕ, zero, suc, _+_, _-_, _/_, _%_, _<_, _≤_}
 use lib.Dec.{eqb, leb, ltb}
@@ -56,11 +56,19 @@ every f (x ∷ xs) = f x && every f xs
 abbrev pub items : ℕ → ℕ → List ℕ → Bool
 items a b c = eqb (length c % 4) 0 && within a b (length c / 4)
 
--- the length that the field at place p announces
-abbrev pub size-at : List ℕ → ℕ → ℕ
-size-at f p = word (getD f (p + 1) 0) (getD f (p + 2) 0)
+-- the length that a field at place p of a file announces: the two bytes behind its tag
+abbrev pub announced : List ℕ → ℕ → ℕ
+announced f p = word (getD f (p + 1) 0) (getD f (p + 2) 0)
 
--- what stands at a place of a holder: nothing more, a field that is broken there, or a field by its tag, place and contents
+-- the contents of the field at place p: the part of the file behind its tag and its length, as long as announced
+abbrev pub contents-at : List ℕ → ℕ → List ℕ
+contents-at f p = take (announced f p) (drop (p + 3) f)
+
+-- the tags that files have: those of applets, of rule policies and of state tables
+abbrev pub a-tag : ℕ → Bool
+a-tag t = within 1 4 t || within 65 69 t || within 97 98 t
+
+-- what stands at a place of a holder: nothing more, a field that is broken or of no known tag, or a field by its tag, place and contents
 pub data Standing : Type 0 where
   nothing : Standing
   broken : ℕ → Standing
@@ -71,7 +79,8 @@ abbrev pub standing : List ℕ → ℕ → Standing
 standing f p =
     cond (leb (length f) p) nothing
     (cond (ltb (length f - p) 3) (broken p)
-    (cond (ltb (length f - p - 3) (size-at f p)) (broken p) (found (getD f p 0) p (take (size-at f p) (drop (p + 3) f)))))
+    (cond (ltb (length f - p - 3) (announced f p)) (broken p)
+    (cond (a-tag (getD f p 0)) (found (getD f p 0) p (contents-at f p)) (broken p))))
 
 -- the place behind what stands at place p
 abbrev pub behind : ℕ → Standing → ℕ

@@ -9,16 +9,8 @@ use Rattle.model.specs.declared.Instr.{Instr}
 use Rattle.model.specs.declared.Refusal.{Refusal}
 use Rattle.model.specs.Machine.{Applet}
 use Rattle.model.specs.Words.{word, quads, flat, quad-at, signed-of, quad-of, decode}
-use Rattle.model.specs.Fields.{Bytes, Part, next, expect}
+use Rattle.model.specs.Fields.{Bytes, announced, contents-at, Part, next, expect}
 use Rattle.model.specs.Reading.{read-applet, write-code, cells-place, method-place, instr-place}
-
--- the length that a field at place p of a file announces: the two bytes behind its tag
-abbrev pub announced : List ℕ → ℕ → ℕ
-announced f p = word (getD f (p + 1) 0) (getD f (p + 2) 0)
-
--- the contents of the field at place p: the part of the file behind its tag and its length, as long as announced
-abbrev pub contents-at : List ℕ → ℕ → List ℕ
-contents-at f p = take (announced f p) (drop (p + 3) f)
 
 -- a field of that tag stands at place p of a file, inside the holder with the bytes h
 pub record Stands (f h : List ℕ) (tag p : ℕ) : Type 0 where
