@@ -17,7 +17,8 @@ use Rattle.model.specs.declared.Test.{Test}
 use Rattle.model.specs.declared.Instr.{Instr}
 use Rattle.model.specs.Policy.{Automaton, Event, turn, Turn, exec, Ran}
 use Rattle.model.specs.declared.Outcome.{Outcome}
-use Rattle.model.specs.Machine.{with-thread, Applet, Machine, Thread, Frame, Status, Stepped, thread, fetch, step, answer, by-status}
+use Rattle.model.specs.declared.Status.{Status}
+use Rattle.model.specs.Machine.{with-thread, Applet, Machine, Thread, Frame, Stepped, thread, fetch, step, answer, by-status}
 use Rattle.model.specs.Machine.{run-instr, own-step, local, answered, test-step, lock-step, unlock-step, holds, resume, raised-target}
 use Rattle.model.specs.Runs.{Open, now-open, reply-event, Accepts, accept-rest, after, shown, replied, moment-of}
 use Rattle.model.specs.Weave.{plain-applet, woven-applet, retarget, behind}
@@ -95,12 +96,12 @@ module _ (E : Setting) (z : Bool) where
   open Setting E using (A, B, S, p)
 
   pub plain-steps : {P W : Machine} {q : Option (List ℤ)} {o : ℕ → Option Open} → Tied E z P W q o → (t : ℕ) → t < length (W .threads) →
-      {m j : ℕ} {r : List ℤ} {fs : List Frame} → thread P t ≡ thr Status.ready m j r fs →
-      (c : Own) → getD (drop j (code E m)) 0 Own.End ≡ c → step (plain-applet p) P t ≡ own-step P t (local c (thr Status.ready m j r fs) (W .shared))
+      {m j : ℕ} {r : List ℤ} {fs : List Frame} → thread P t ≡ thr Status.Ready m j r fs →
+      (c : Own) → getD (drop j (code E m)) 0 Own.End ≡ c → step (plain-applet p) P t ≡ own-step P t (local c (thr Status.Ready m j r fs) (W .shared))
   plain-steps {P} {W} T t h {m} {j} {r} {fs} eu c a =
       step-in (plain-applet p) P t (omega (arith, T .wide)) (T .goes) ∙ ap (λ u. by-status (plain-applet p) P t u (u .status)) eu
-      ∙ ap (λ i. run-instr i P t (thr Status.ready m j r fs)) (fetch-plain E m j r ∙ ap Instr.Own a)
-      ∙ ap (λ g. own-step P t (local c (thr Status.ready m j r fs) g)) (T .shared)
+      ∙ ap (λ i. run-instr i P t (thr Status.Ready m j r fs)) (fetch-plain E m j r ∙ ap Instr.Own a)
+      ∙ ap (λ g. own-step P t (local c (thr Status.Ready m j r fs) g)) (T .shared)
 
   -- ---- both machines after an answer
 
@@ -119,15 +120,15 @@ module _ (E : Setting) (z : Bool) where
   pub free-replied : {P W : Machine} {q : Option (List ℤ)} {o : ℕ → Option Open} → Tied E z P W q o → (t : ℕ) → t < length (W .threads) →
       (W .holder ≡ Some t → ⊥) → {m j x k y : ℕ} (r : List ℤ) {fs gs : List Frame} {cs : List Own} → length r ≡ 8 → At E m j x → Callers E fs gs →
       drop j (code E m) ≡ Own.Host k y ∷ cs → A .watched k ≡ false → (b : Bool) (a : ℤ) →
-      Tied E z (replied-to (plain-applet p) P t (thr Status.awaiting m j r fs) b a)
-      (replied-to (woven-applet A B p) W t (thr Status.awaiting m x r gs) b a) q (now-open t None o)
+      Tied E z (replied-to (plain-applet p) P t (thr Status.Awaiting m j r fs) b a)
+      (replied-to (woven-applet A B p) W t (thr Status.Awaiting m x r gs) b a) q (now-open t None o)
   free-replied {P} {W} {q} {o} T t h n {m} {j} {x} {k} {y} r {fs} {gs} {cs} l at c d wk b a =
-      subst (λ i. Tied E z (replied-to (plain-applet p) P t (thr Status.awaiting m j r fs) b a)
-      (at-thread W t (resume (woven-applet A B p) (thr Status.awaiting m x r gs) b a) (cond i (set (W .args) 4 a) (W .args)) (W .cells)
+      subst (λ i. Tied E z (replied-to (plain-applet p) P t (thr Status.Awaiting m j r fs) b a)
+      (at-thread W t (resume (woven-applet A B p) (thr Status.Awaiting m x r gs) b a) (cond i (set (W .args) 4 a) (W .args)) (W .cells)
       (W .scratch) (W .holder)) q (now-open t None o))
       (sym (holds-not (W .holder) t n))
-      (tied-set E z T t h (resume (plain-applet p) (thr Status.awaiting m j r fs) b a)
-      (resume (woven-applet A B p) (thr Status.awaiting m x r gs) b a) (P .shared) (W .shared) (W .args) (W .cells) (W .scratch) (T .shared)
+      (tied-set E z T t h (resume (plain-applet p) (thr Status.Awaiting m j r fs) b a)
+      (resume (woven-applet A B p) (thr Status.Awaiting m x r gs) b a) (P .shared) (W .shared) (W .args) (W .cells) (W .scratch) (T .shared)
       (T .args) (T .cells) (T .scratch) (W .holder) q (now-open t None o)
       (λ i nz nh. subst (λ y. Free E z y (thread P i) (thread W i)) (sym (shut-there o t i nz)) (T .free i nh))
       (λ nh. Free.ready (length-set r 0 a ∙ l) (resumed-at E b m j x y _ _ (target-plain m j r d) (target-woven m x r f) (at-next E z m j x d f)) c)
@@ -138,10 +139,10 @@ module _ (E : Setting) (z : Bool) where
       f = host-code E m j x d wk at
 
   module _ {P W : Machine} {q : Option (List ℤ)} {o : ℕ → Option Open} (T : Tied E z P W q o) (zt : z ≡ true) (t : ℕ) (h : t < length (W .threads))
-      (m j x : ℕ) (r : List ℤ) (fs gs : List Frame) (l : length r ≡ 8) (cl : Callers E fs gs) (eu : thread P t ≡ thr Status.ready m j r fs) where
+      (m j x : ℕ) (r : List ℤ) (fs gs : List Frame) (l : length r ≡ 8) (cl : Callers E fs gs) (eu : thread P t ≡ thr Status.Ready m j r fs) where
     -- the woven machine runs instruction i, and is followed
     abbrev Stepping : Instr → Type 0
-    Stepping i = Sim E z P W q o (after W (run-instr i W t (thr Status.ready m x r gs))) (shown t (run-instr i W t (thr Status.ready m x r gs)))
+    Stepping i = Sim E z P W q o (after W (run-instr i W t (thr Status.Ready m x r gs))) (shown t (run-instr i W t (thr Status.Ready m x r gs)))
 
     -- the woven machine runs the instruction at which its thread stands, and is followed
     abbrev Goes : Type 0
@@ -156,18 +157,18 @@ module _ (E : Setting) (z : Bool) where
     -- only the woven machine moves
     alone-set : (y : ℕ) (a s c : List ℤ) (ho : Option ℕ) → length a ≡ 5 → length s ≡ 32 → length c ≡ 8 →
         ((i : ℕ) → (i ≡ t → ⊥) → (ho ≡ Some i → ⊥) → Free E z (o i) (thread P i) (thread W i)) →
-        ((ho ≡ Some t → ⊥) → Free E z (o t) (thr Status.ready m j r fs) (thr Status.ready m y r gs)) →
-        LockNow E z t (thr Status.ready m j r fs) (thr Status.ready m y r gs) q o P W a s c ho →
-        Sim E z P W q o (at-thread W t (thr Status.ready m y r gs) a s c ho) []
+        ((ho ≡ Some t → ⊥) → Free E z (o t) (thr Status.Ready m j r fs) (thr Status.Ready m y r gs)) →
+        LockNow E z t (thr Status.Ready m j r fs) (thr Status.Ready m y r gs) q o P W a s c ho →
+        Sim E z P W q o (at-thread W t (thr Status.Ready m y r gs) a s c ho) []
     alone-set y a s c ho la ls lc others here lock = alone E z
-        (subst (λ N. Tied E z N (at-thread W t (thr Status.ready m y r gs) a s c ho) q o) (unmoved P t (thr Status.ready m j r fs) eu)
-        (tied-set E z T t h (thr Status.ready m j r fs) (thr Status.ready m y r gs) (P .shared) (W .shared) a s c
+        (subst (λ N. Tied E z N (at-thread W t (thr Status.Ready m y r gs) a s c ho) q o) (unmoved P t (thr Status.Ready m j r fs) eu)
+        (tied-set E z T t h (thr Status.Ready m j r fs) (thr Status.Ready m y r gs) (P .shared) (W .shared) a s c
         (T .shared) la ls lc ho q o others here lock (P .cells) (P .scratch) (P .args) (P .holder)))
 
     -- ---- a thread that does not hold the lock
 
     locking : (k y : ℕ) (cs : List Own) → SiteAt E m j x k y cs → (ho : Option ℕ) → W .holder ≡ ho →
-        Sim E z P W q o (after W (lock-step ho W t (thr Status.ready m x r gs))) (shown t (lock-step ho W t (thr Status.ready m x r gs)))
+        Sim E z P W q o (after W (lock-step ho W t (thr Status.Ready m x r gs))) (shown t (lock-step ho W t (thr Status.Ready m x r gs)))
     locking k y cs s (Some i) g = alone E z T
     locking k y cs s None g =
         alone-set (x + 1) (take 4 r ++ drop 4 (W .args)) (W .cells) (W .scratch) (Some t)
@@ -191,13 +192,13 @@ module _ (E : Setting) (z : Bool) where
       ready-step : Ready E z (o t) m j x r fs gs → Goes
       ready-step (Ready.own c d a b k) =
           at-instr (Instr.Own d) b (let al = k (W .shared) in both E z t _ _
-          (plain-steps T t h eu c a ∙ ap (λ s. Stepped.done (after P (own-step P t (local c (thr Status.ready m j r fs) (W .shared)))) s)
+          (plain-steps T t h eu c a ∙ ap (λ s. Stepped.done (after P (own-step P t (local c (thr Status.Ready m j r fs) (W .shared)))) s)
           (al .says)) q (own-tied E z T t h n _ _ al)
           (λ es g. subst (λ y. Accepted A q (y ++ es))
-          (sym (quiet-events (A .watched) o t (local d (thr Status.ready m x r gs) (W .shared) .says) (al .quiet))) g))
+          (sym (quiet-events (A .watched) o t (local d (thr Status.Ready m x r gs) (W .shared) .says) (al .quiet))) g))
       ready-step (Ready.watched k y cs s) = at-head (Instr.Lock k) _ (site-code E s) (locking k y cs s (W .holder) refl)
 
-      slide : (y : ℕ) → At E m j y → Sim E z P W q o (with-thread W t (thr Status.ready m y r gs)) []
+      slide : (y : ℕ) → At E m j y → Sim E z P W q o (with-thread W t (thr Status.Ready m y r gs)) []
       slide y a = alone-set y (W .args) (W .cells) (W .scratch) (W .holder) (T .args) (T .cells) (T .scratch) (λ i nz nh. T .free i nh)
           (λ nh. Free.ready l a cl) (lock-stays E z P W q o o t _ _ (W .holder) n (λ i nz. refl) (T .lock))
 
@@ -214,12 +215,12 @@ module _ (E : Setting) (z : Bool) where
       tested : (Z : List Instr) (Q : Option (List ℤ)) (i : Test) (b : List Test) → drop x (codew E m) ≡ Instr.Test i ∷ (map Instr.Test b ++ Z) →
           Owes A (exec (W .args) 0 (i ∷ b) (W .cells) (W .scratch)) Q →
           ((y : ℕ) (d : List Test) (s c : List ℤ) → drop y (codew E m) ≡ map Instr.Test d ++ Z → y + length d ≡ x + 1 + length b →
-          Owes A (exec (W .args) 0 d s c) Q → Held E z q (o t) (W .args) s c (thr Status.ready m j r fs) (thr Status.ready m y r gs)) → Goes
+          Owes A (exec (W .args) 0 d s c) Q → Held E z q (o t) (W .args) s c (thr Status.Ready m j r fs) (thr Status.Ready m y r gs)) → Goes
       tested Z Q i b f ow k = at-head (Instr.Test i) _ f (go (turn (W .args) i (W .cells) (W .scratch)) (turn-keeps (W .args) i (W .cells) (W .scratch)) ow)
         where
           go : (u : Turn) → Kept (length (W .cells)) (length (W .scratch)) u →
               Owes A (elim u [ Turn.went n s′ m′ ↦ exec (W .args) n b s′ m′ | Turn.halts ↦ Ran.stopped ]) Q →
-              Sim E z P W q o (after W (test-step W t (thr Status.ready m x r gs) u)) (shown t (test-step W t (thr Status.ready m x r gs) u))
+              Sim E z P W q o (after W (test-step W t (thr Status.Ready m x r gs) u)) (shown t (test-step W t (thr Status.Ready m x r gs) u))
           go Turn.halts ks ow = halting E z refl
           go (Turn.went d s c) ks ow =
               let ex = exec-drop (W .args) d b s c (owes-strays A _ Q ow) in
@@ -238,7 +239,7 @@ module _ (E : Setting) (z : Bool) where
       host-step {i} {k} {y} {d} {cs} v s f ix ea eq got =
           at-head _ _ f (both E z t _ (Outcome.Called k (take 4 r)) (plain-steps T t h eu (Own.Host k y) (ap (λ y. getD y 0 Own.End) (s .plain)))
           (Some (take (A .width) (W .cells)))
-          (tied-set E z T t h (thr Status.awaiting m j r fs) (thr Status.awaiting m x r gs) (W .shared) (W .shared) (W .args) (W .cells)
+          (tied-set E z T t h (thr Status.Awaiting m j r fs) (thr Status.Awaiting m x r gs) (W .shared) (W .shared) (W .args) (W .cells)
           (W .scratch) refl (T .args) (T .cells) (T .scratch) (W .holder) (Some (take (A .width) (W .cells))) (opened t k (take 4 r) o)
           (λ i nz nh. subst (λ y. Free E z y (thread P i) (thread W i)) (sym (opens-there o t i (Outcome.Called k (take 4 r)) nz)) (others i nz))
           (λ nh. absurd (nh n))
@@ -251,8 +252,8 @@ module _ (E : Setting) (z : Bool) where
       unlocking : {y : ℕ} {i : Instr} (is : List Instr) → At E m j y → drop x (codew E m) ≡ Instr.Unlock ∷ (i ∷ is) → Pass i (x + 2) y →
           q ≡ Some (take (A .width) (W .cells)) → Goes
       unlocking {y} {i} is a f k e = at-head Instr.Unlock _ f
-          (subst (λ b. Sim E z P W q o (after W (unlock-step b W t (thr Status.ready m x r gs)))
-          (shown t (unlock-step b W t (thr Status.ready m x r gs)))) (sym (holds-it (W .holder) t n))
+          (subst (λ b. Sim E z P W q o (after W (unlock-step b W t (thr Status.Ready m x r gs)))
+          (shown t (unlock-step b W t (thr Status.Ready m x r gs)))) (sym (holds-it (W .holder) t n))
           (alone-set (x + 1) (W .args) (W .cells) (W .scratch) None (T .args) (T .cells) (T .scratch) (λ i nz nh. others i nz)
           (λ nh. Free.passing l a cl (drop-next (codew E m) _ Instr.Unlock x f)
           (let ax : x + 2 ≡ x + 1 + 1 = omega arith in subst (λ n. Pass i n y) ax k) zt) e))
@@ -289,8 +290,8 @@ module _ (E : Setting) (z : Bool) where
         drop x (codew E m) ≡ from-host E m i k y cs → x ≡ i + 1 + length (blk E k 0) → (b : Bool) →
         Owes A (exec xs 0 (blk E k (moment-of b)) (W .cells) (W .scratch)) Q →
         (tp tw : ℕ) → tp ≡ y → tw ≡ i + (length (blk E k 0) + (length (blk E k 1) + 4)) →
-        Held E z Q (now-open t None o t) xs (W .cells) (W .scratch) (thr Status.ready m (cond b tp (j + 1)) (set r 0 a) fs)
-        (thr Status.ready m (cond b tw (x + 1)) (set r 0 a) gs)
+        Held E z Q (now-open t None o t) xs (W .cells) (W .scratch) (thr Status.Ready m (cond b tp (j + 1)) (set r 0 a) fs)
+        (thr Status.Ready m (cond b tw (x + 1)) (set r 0 a) gs)
     leg-at {m} {j} {x} {i} {k} {y} r {fs} {gs} {cs} Q a xs l s c f ix true ow tp tw e g =
         Held.leg {y = to E m y} (laid E m (i + suc (behind (blk E) k)) cs) (blk E k 2) (length-set r 0 a ∙ l) (rw e (at-target E z m y)) c
         (rw g (site-raised E s x f ix)) Pass.jump ow zt
@@ -309,7 +310,7 @@ module _ (E : Setting) (z : Bool) where
     free-answer n u v b a e (Free.ready l at c) = alone E z T
     free-answer n u v b a e Free.ended = alone E z T
     free-answer n u v b a e (Free.waiting {m} {j} {x} {k} {n = y} {r} {fs} {gs} {cs} l at c d wk xs ok) =
-        both-answer E z t b a _ _ (plain-answers (thr Status.awaiting m j r fs) b a e) q (free-replied T t h n r l at c d wk b a)
+        both-answer E z t b a _ _ (plain-answers (thr Status.Awaiting m j r fs) b a e) q (free-replied T t h n r l at c d wk b a)
         (λ es g. subst (λ i. Accepted A q ((reply-event (A .watched) i b a ++ []) ++ es)) (sym ok)
         (subst (λ i. Accepted A q ((cond i (event A (moment-of b) k xs a ∷ []) [] ++ []) ++ es)) (sym wk) g))
     free-answer n u v b a e (Free.passing l at c d k _) = alone E z T
@@ -318,14 +319,14 @@ module _ (E : Setting) (z : Bool) where
         Held E z q (o t) (W .args) (W .cells) (W .scratch) u v → Answers v b a
     held-answer n u v b a e (Held.before last d l s c f ix ea eq ow _) = alone E z T
     held-answer n u v b a e (Held.wait {m} {j} {x} {i} {k} {n = y} {r} {fs} {gs} {cs} last l s c f ix ea eq eo) =
-        both-answer E z t b a _ _ (plain-answers (thr Status.awaiting m j r fs) b a e)
+        both-answer E z t b a _ _ (plain-answers (thr Status.Awaiting m j r fs) b a e)
         (A .step (event A (moment-of b) k (take 4 r) a) (take (A .width) (W .cells)))
-        (subst (λ i. Tied E z (replied-to (plain-applet p) P t (thr Status.awaiting m j r fs) b a)
-        (at-thread W t (resume (woven-applet A B p) (thr Status.awaiting m x r gs) b a) (cond i (set (W .args) 4 a) (W .args)) (W .cells)
+        (subst (λ i. Tied E z (replied-to (plain-applet p) P t (thr Status.Awaiting m j r fs) b a)
+        (at-thread W t (resume (woven-applet A B p) (thr Status.Awaiting m x r gs) b a) (cond i (set (W .args) 4 a) (W .args)) (W .cells)
         (W .scratch) (W .holder)) (A .step (event A (moment-of b) k (take 4 r) a) (take (A .width) (W .cells))) (now-open t None o))
         (sym (holds-it (W .holder) t n))
-        (tied-set E z T t h (resume (plain-applet p) (thr Status.awaiting m j r fs) b a)
-        (resume (woven-applet A B p) (thr Status.awaiting m x r gs) b a) (P .shared) (W .shared) (set (W .args) 4 a) (W .cells) (W .scratch)
+        (tied-set E z T t h (resume (plain-applet p) (thr Status.Awaiting m j r fs) b a)
+        (resume (woven-applet A B p) (thr Status.Awaiting m x r gs) b a) (P .shared) (W .shared) (set (W .args) 4 a) (W .cells) (W .scratch)
         (T .shared) (length-set (W .args) 4 a ∙ T .args) (T .cells) (T .scratch) (W .holder) _ (now-open t None o)
         (λ i nz nh. subst (λ y. Free E z y (thread P i) (thread W i)) (sym (shut-there o t i nz)) (T .free i nh)) (λ nh. absurd (nh n))
         (subst (LockNow E z t _ _ _ (now-open t None o) P W (set (W .args) 4 a) (W .cells) (W .scratch)) (sym n) (inl (

@@ -65,6 +65,14 @@ pub enum Moment {
     Raised,
 }
 
+// A thread can be stepped, awaits an answer, or has ended.
+#[derive(Clone, Copy, PartialEq, Eq, Debug)]
+pub enum Status {
+    Ready,
+    Awaiting,
+    Ended,
+}
+
 // Why a thread ended: END, or RET in its first frame; CALL with all frames in use; UNLOCK without
 // the lock.
 #[derive(Clone, Copy, PartialEq, Eq, Debug)]
