@@ -2,6 +2,7 @@
 pub mod Options
 pub mod Base
 -- what is written is read back, what is read is valid, and where it stands
+pub mod Moments
 pub mod Words
 pub mod RoundTrip
 pub mod Accepted

@@ -12,6 +12,7 @@ use Rattle.std.proofs.shelf.Lists.{drop-all}
 use Rattle.std.specs.declared.option.Option.{Option}
 use Rattle.std.specs.declared.option.Option.the-variants.{Some, None}
 use Rattle.std.proofs.shelf.Tests.{eq-eqb, ne-eqb, lt-ltb}
+use Rattle.model.specs.declared.Moment.{Moment}
 use Rattle.model.specs.declared.Own.{Own}
 use Rattle.model.specs.declared.Instr.{Instr}
 use Rattle.model.specs.Policy.{Event, exec, Ran, end, due}
@@ -89,15 +90,15 @@ module _ (E : Setting) where
   -- ---- what a block owes
 
   pub blind : (k : ℕ) (xs : List ℤ) (v y : ℤ) (s : List ℤ) → length xs ≡ 4 → length s ≡ 32 →
-      A .step (event A 0 k xs v) (take (A .width) s) ≡ A .step (event A 0 k xs y) (take (A .width) s)
+      A .step (event A Moment.Before k xs v) (take (A .width) s) ≡ A .step (event A Moment.Before k xs y) (take (A .width) s)
   blind k xs v y s lx ls = S .shows .blind k xs v y (take (A .width) s) lx (length-take-le (A .width) s (omega (arith, S .narrow)))
 
-  pub owed : (k t : ℕ) → t < 3 → (xs : List ℤ) (v : ℤ) (s c : List ℤ) → length xs ≡ 4 → length s ≡ 32 → length c ≡ 8 →
+  pub owed : (k : ℕ) (t : Moment) (xs : List ℤ) (v : ℤ) (s c : List ℤ) → length xs ≡ 4 → length s ≡ 32 → length c ≡ 8 →
       Owes A (exec (xs ++ (v ∷ [])) 0 (blk E k t) s c) (A .step (event A t k xs v) (take (A .width) s))
-  owed k t below xs v s c lx ls lc =
+  owed k t xs v s c lx ls lc =
       go (exec (xs ++ (v ∷ [])) 0 (blk E k t) s c) (A .step (event A t k xs v) mine) (λ d. S .shows .keeps (event A t k xs v) mine d wide)
       (subst (λ y. end (exec (xs ++ (v ∷ [])) 0 (blk E k t) y c) ≡ due [] (drop (A .width) s) (A .step (event A t k xs v) mine)) (take-append-drop (A .width) s)
-      (S .shows .runs k t 0 below [] mine (drop (A .width) s) refl wide xs v c lx lc))
+      (S .shows .runs k t 0 [] mine (drop (A .width) s) refl wide xs v c lx lc))
     where
       mine : List ℤ
       mine = take (A .width) s

@@ -12,6 +12,7 @@ use lib.IntN.{ℤ, pos}
 use Rattle.std.specs.declared.option.Option.{Option}
 use Rattle.std.specs.declared.option.Option.the-variants.{Some, None}
 use Rattle.std.proofs.shelf.Tests.{eq-eqb, ne-eqb, ltb-true, false≢true}
+use Rattle.model.specs.declared.Moment.{Moment}
 use Rattle.model.specs.declared.Own.{Own}
 use Rattle.model.specs.declared.Test.{Test}
 use Rattle.model.specs.declared.Instr.{Instr}
@@ -20,7 +21,7 @@ use Rattle.model.specs.declared.Outcome.{Outcome}
 use Rattle.model.specs.declared.Status.{Status}
 use Rattle.model.specs.Machine.{with-shared, Applet, Machine, Thread, Frame, Stepped, Local, thread, new-thread, fetch, step, answer}
 use Rattle.model.specs.Machine.{admit, by-status, run-instr, own-step, local, answered, test-step, unlock-step, holds, resume, raised-target}
-use Rattle.model.specs.Runs.{Act, Seen, Open, run, trace, act, sees, events, seen-of, after, shown, replied, moment-of, now-open, reply-event}
+use Rattle.model.specs.Runs.{Act, Seen, Open, run, trace, act, sees, events, seen-of, after, shown, replied, answer-moment, now-open, reply-event}
 use Rattle.model.specs.Weave.{plain-applet, woven-applet}
 use Rattle.model.proofs.Options.{not-both, some-same}
 use Rattle.model.proofs.Base.{drop-next, drop-more, turn-keeps, Kept}
@@ -30,7 +31,7 @@ use Rattle.model.specs.Enforcement.{Takes, takes-then, free-then, closed, Alon
 use Rattle.model.specs.Files.{loaded}
 use Rattle.model.proofs.SimulationSteps.{unmoved, Quiet, opens-here, opens-there, shut-there, blind, last-of, step-in, answer-in, owed, tied-set}
 use Rattle.model.proofs.SimulationSteps.{Alike, at-target, own-tied, Ready, ready-at}
-use Rattle.model.proofs.Faithful.{moment-below, holds-it, site-after, site-raised, site-next, replied-to, target-plain, target-woven, free-replied}
+use Rattle.model.proofs.Faithful.{holds-it, site-after, site-raised, site-next, replied-to, target-plain, target-woven, free-replied}
 use Rattle.model.proofs.Faithful.{by-holder}
 use Rattle.model.proofs.FaithfulRuns.{trace-append, tied-fresh, faithful}
 
@@ -75,7 +76,7 @@ quiet-takes : (A : Automaton) (c : List ℤ) (o : ℕ → Option Open) (t : ℕ)
     Takes A c (events (A .watched) o (seen-of t s ++ rest)) → Takes A c (events (A .watched) (opens o (seen-of t s)) rest)
 quiet-takes A c o t Outcome.Moved rest q h = h
 quiet-takes A c o t (Outcome.Called k xs) rest q h = subst
-    (λ b. Takes A c (cond b (record { moment = 0; call = k; args = xs; answer = pos 0 } ∷ []) [] ++ events (A .watched) (opened t k xs o) rest)) q h
+    (λ b. Takes A c (cond b (record { moment = Moment.Before; call = k; args = xs; answer = pos 0 } ∷ []) [] ++ events (A .watched) (opened t k xs o) rest)) q h
 quiet-takes A c o t (Outcome.Ended n) rest q h = h
 quiet-takes A c o t Outcome.Stop rest q h = h
 
@@ -168,21 +169,21 @@ module _ (E : Setting) (W : Machine) (t : ℕ) (h : t < length (W .threads)) (aw
       (map Instr.Test b) Z
 
   call-way : {j x k y : ℕ} {cs : List Own} (r s′ c′ : List ℤ) → SiteAt E m j x k y cs → thread W t ≡ thr Status.Ready m x r gs → W .holder ≡ None →
-      exec (take 4 r ++ drop 4 (W .args)) 0 (blk E k 0) (W .cells) (W .scratch) ≡ Ran.reached s′ c′ →
-      Way wp W (at-thread W t (thr Status.Awaiting m (x + 1 + length (blk E k 0)) r gs) (take 4 r ++ drop 4 (W .args)) s′ c′ (Some t))
+      exec (take 4 r ++ drop 4 (W .args)) 0 (blk E k Moment.Before) (W .cells) (W .scratch) ≡ Ran.reached s′ c′ →
+      Way wp W (at-thread W t (thr Status.Awaiting m (x + 1 + length (blk E k Moment.Before)) r gs) (take 4 r ++ drop 4 (W .args)) s′ c′ (Some t))
       (Seen.call t k (take 4 r) ∷ [])
   call-way {j} {x} {k} {y} {cs} r s′ c′ s ev n ex =
-      subst (λ M. Way wp M (at-thread W t (thr Status.Awaiting m (x + 1 + length (blk E k 0)) r gs) (take 4 r ++ drop 4 (W .args)) s′ c′ (Some t))
+      subst (λ M. Way wp M (at-thread W t (thr Status.Awaiting m (x + 1 + length (blk E k Moment.Before)) r gs) (take 4 r ++ drop 4 (W .args)) s′ c′ (Some t))
       (Seen.call t k (take 4 r) ∷ []))
       (ap (at-thread W t (thr Status.Ready m x r gs) (W .args) (W .cells) (W .scratch)) (sym n) ∙ unmoved W t (thr Status.Ready m x r gs) ev)
       (then wp (way-instr x r (Instr.Lock k) _ (site-code E s) (W .args) (W .cells) (W .scratch) None (thr Status.Ready m (x + 1) r gs)
       (take 4 r ++ drop 4 (W .args)) (W .cells) (W .scratch) (Some t) Outcome.Moved refl)
-      (then wp (block-way r (take 4 r ++ drop 4 (W .args)) s′ c′ (Some t) (from-host E m x k y cs) (blk E k 0) 0 (x + 1) (x + 1)
-      (x + 1 + length (blk E k 0)) (omega arith) refl f (W .cells) (W .scratch) ex)
-      (way-instr (x + 1 + length (blk E k 0)) r _ _ (seam (blk E k 0) (from-host E m x k y cs) (x + 1) f) (take 4 r ++ drop 4 (W .args)) s′ c′
-      (Some t) (thr Status.Awaiting m (x + 1 + length (blk E k 0)) r gs) (take 4 r ++ drop 4 (W .args)) s′ c′ (Some t) (Outcome.Called k (take 4 r)) refl)))
+      (then wp (block-way r (take 4 r ++ drop 4 (W .args)) s′ c′ (Some t) (from-host E m x k y cs) (blk E k Moment.Before) 0 (x + 1) (x + 1)
+      (x + 1 + length (blk E k Moment.Before)) (omega arith) refl f (W .cells) (W .scratch) ex)
+      (way-instr (x + 1 + length (blk E k Moment.Before)) r _ _ (seam (blk E k Moment.Before) (from-host E m x k y cs) (x + 1) f) (take 4 r ++ drop 4 (W .args)) s′ c′
+      (Some t) (thr Status.Awaiting m (x + 1 + length (blk E k Moment.Before)) r gs) (take 4 r ++ drop 4 (W .args)) s′ c′ (Some t) (Outcome.Called k (take 4 r)) refl)))
     where
-      f : drop (x + 1) (codew E m) ≡ map Instr.Test (blk E k 0) ++ from-host E m x k y cs
+      f : drop (x + 1) (codew E m) ≡ map Instr.Test (blk E k Moment.Before) ++ from-host E m x k y cs
       f = drop-next (codew E m) _ (Instr.Lock k) x (site-code E s)
 
   pass-way : (x y : ℕ) (i : Instr) (is : List Instr) (r a s c : List ℤ) (ho : Option ℕ) → drop x (codew E m) ≡ i ∷ is → Pass i (x + 1) y →
@@ -256,8 +257,8 @@ module _ (E : Setting) where
             | false ↦ Alone (A .watched)
                 (W .holder) rest
           ]) (s .watch) al) in
-          let tk = takes-some A (A .step (event A 0 k (take 4 r) (pos 0)) c) (λ d. Takes A d (events (A .watched) (opened t k (take 4 r) o) rest))
-          (subst (λ b. Takes A c (cond b (event A 0 k (take 4 r) (pos 0) ∷ []) [] ++ events (A .watched) (opened t k (take 4 r) o) rest)) (s .watch) ta) in
+          let tk = takes-some A (A .step (event A Moment.Before k (take 4 r) (pos 0)) c) (λ d. Takes A d (events (A .watched) (opened t k (take 4 r) o) rest))
+          (subst (λ b. Takes A c (cond b (event A Moment.Before k (take 4 r) (pos 0) ∷ []) [] ++ events (A .watched) (opened t k (take 4 r) o) rest)) (s .watch) ta) in
           go (fr .0) (fr .1) (tk .0) (tk .1) (tk .2) (owes-some A _ (tk .0) (ow (fr .0) (tk .0) (tk .1)))
         where
           last : ℤ
@@ -269,26 +270,26 @@ module _ (E : Setting) where
           ea : a ≡ take 4 r ++ (last ∷ [])
           ea = ap (λ y. take 4 r ++ y) (last-of (W .args) (T .args))
 
-          ow : W .holder ≡ None → (d : List ℤ) → A .step (event A 0 k (take 4 r) (pos 0)) c ≡ Some d →
-              Owes A (exec a 0 (blk E k 0) (W .cells) (W .scratch)) (Some d)
+          ow : W .holder ≡ None → (d : List ℤ) → A .step (event A Moment.Before k (take 4 r) (pos 0)) c ≡ Some d →
+              Owes A (exec a 0 (blk E k Moment.Before) (W .cells) (W .scratch)) (Some d)
           ow n d got = let ce : c ≡ take (A .width) (W .cells) = some-same _ _ (subst (Lock E false (Some c) o P W) n (T .lock)) refl in
-              subst₂ (λ a q. Owes A (exec a 0 (blk E k 0) (W .cells) (W .scratch)) q) (sym ea)
+              subst₂ (λ a q. Owes A (exec a 0 (blk E k Moment.Before) (W .cells) (W .scratch)) q) (sym ea)
               (blind E k (take 4 r) last (pos 0) (W .cells) (length-take-le 4 r (omega arith)) (T .cells) ∙ ap
-              (A .step (event A 0 k (take 4 r) (pos 0))) (sym ce) ∙ got)
-              (owed E k 0 (omega arith) (take 4 r) last (W .cells) (W .scratch) (length-take-le 4 r (omega arith)) (T .cells) (T .scratch))
+              (A .step (event A Moment.Before k (take 4 r) (pos 0))) (sym ce) ∙ got)
+              (owed E k Moment.Before (take 4 r) last (W .cells) (W .scratch) (length-take-le 4 r (omega arith)) (T .cells) (T .scratch))
 
-          go : W .holder ≡ None → Alone (A .watched) (Some t) rest → (d : List ℤ) → A .step (event A 0 k (take 4 r) (pos 0)) c ≡ Some d →
+          go : W .holder ≡ None → Alone (A .watched) (Some t) rest → (d : List ℤ) → A .step (event A Moment.Before k (take 4 r) (pos 0)) c ≡ Some d →
               Takes A d (events (A .watched) (opened t k (take 4 r) o) rest) →
-              (s′ c′ : List ℤ) × (exec a 0 (blk E k 0) (W .cells) (W .scratch) ≡ Ran.reached s′ c′) × (take (A .width) s′ ≡ d) →
+              (s′ c′ : List ℤ) × (exec a 0 (blk E k Moment.Before) (W .cells) (W .scratch) ≡ Ran.reached s′ c′) × (take (A .width) s′ ≡ d) →
               Echo W o (after P (own-step P t (local (Own.Host k y) (thr Status.Ready m j r fs) (W .shared)))) (Seen.call t k (take 4 r) ∷ []) rest
           go n al d got ta (s′, c′, ex, tk) =
               let kept : KeptBy 32 8 (Ran.reached s′ c′) = subst (KeptBy 32 8) ex
-              (exec-keeps a (blk E k 0) 0 (W .cells) (W .scratch) 32 8 (T .cells) (T .scratch)) in
+              (exec-keeps a (blk E k Moment.Before) 0 (W .cells) (W .scratch) 32 8 (T .cells) (T .scratch)) in
               record {
-                ends = at-thread W t (thr Status.Awaiting m (x + 1 + length (blk E k 0)) r gs) a s′ c′ (Some t);
+                ends = at-thread W t (thr Status.Awaiting m (x + 1 + length (blk E k Moment.Before)) r gs) a s′ c′ (Some t);
                 way = call-way E W t h (T .awake) m gs r s′ c′ s ev n ex;
                 next = d;
-                tied = tied-set E false T t h (thr Status.Awaiting m j r fs) (thr Status.Awaiting m (x + 1 + length (blk E k 0)) r gs) (W .shared)
+                tied = tied-set E false T t h (thr Status.Awaiting m j r fs) (thr Status.Awaiting m (x + 1 + length (blk E k Moment.Before)) r gs) (W .shared)
                     (W .shared) a s′ c′ refl (simp (length-append, length-take, length-drop) (omega (arith, T .args))) (kept .0) (kept .1) (Some t)
                     (Some d) (opened t k (take 4 r) o)
                     (λ i nz nh. subst (λ y. Free E false y (thread P i) (thread W i)) (sym (opens-there o t i (Outcome.Called k (take 4 r)) nz))
@@ -296,7 +297,7 @@ module _ (E : Setting) where
                     (inl (
                       refl,
                       Held.wait last l s cl
-                          (seam E W t h (T .awake) m gs (blk E k 0) (from-host E m x k y cs) (x + 1)
+                          (seam E W t h (T .awake) m gs (blk E k Moment.Before) (from-host E m x k y cs) (x + 1)
                           (drop-next (codew E m) _ (Instr.Lock k) x (site-code E s))) refl ea (ap Some (sym tk)) (opens-here o t (Outcome.Called k (take 4 r))),
                     ))
                     (P .cells) (P .scratch) (P .args) (P .holder);
@@ -345,39 +346,39 @@ module _ (E : Setting) where
         way = way-answer (woven-applet A B p) t b a Outcome.Moved (woven-answers (thr Status.Awaiting m x r gs) b a ev);
         next = c;
         tied = free-replied E false T t h n r l at cl d wk b a;
-        takes = subst (λ i. Takes A c (cond i (event A (moment-of b) k xs a ∷ []) [] ++ events (A .watched) (now-open t None o) rest)) wk
+        takes = subst (λ i. Takes A c (cond i (event A (answer-moment b) k xs a ∷ []) [] ++ events (A .watched) (now-open t None o) rest)) wk
             (subst (λ i. Takes A c (reply-event (A .watched) i b a ++ events (A .watched) (now-open t None o) rest)) ok ta);
         alone = subst (λ q. Alone (A .watched) q rest) (closed-other (W .holder) t n) al;
       }
       free-reply n u v b a ev (Free.passing l at cl d k z) = absurd (false≢true z)
 
       reply-leg : {m j x i k y : ℕ} {cs : List Own} (gs : List Frame) (r xs s′ c′ : List ℤ) → SiteAt E m j i k y cs →
-          drop x (codew E m) ≡ from-host E m i k y cs → x ≡ i + 1 + length (blk E k 0) →
-          (b : Bool) (tp tw : ℕ) → tp ≡ y → tw ≡ i + (length (blk E k 0) + (length (blk E k 1) + 4)) →
-          exec xs 0 (blk E k (moment-of b)) (W .cells) (W .scratch) ≡ Ran.reached s′ c′ →
+          drop x (codew E m) ≡ from-host E m i k y cs → x ≡ i + 1 + length (blk E k Moment.Before) →
+          (b : Bool) (tp tw : ℕ) → tp ≡ y → tw ≡ i + (length (blk E k Moment.Before) + (length (blk E k Moment.After) + 4)) →
+          exec xs 0 (blk E k (answer-moment b)) (W .cells) (W .scratch) ≡ Ran.reached s′ c′ →
           (e : ℕ) × At E m (cond b tp (j + 1)) e × Way (woven-applet A B p)
           (at-thread W t (thr Status.Ready m (cond b tw (x + 1)) r gs) xs (W .cells) (W .scratch) (Some t))
           (at-thread W t (thr Status.Ready m e r gs) xs s′ c′ None) []
       reply-leg {m} {j} {x} {i} {k} {y} {cs} gs r xs s′ c′ s f ix true tp tw e g ex = (
         to E m y,
         rw e (at-target E false m y),
-        rw g (leg-way E W t h (T .awake) m gs _ (to E m y) _ _ (blk E k 2) r xs (W .cells) (W .scratch) s′ c′ (site-raised E s x f ix) Pass.jump ex),
+        rw g (leg-way E W t h (T .awake) m gs _ (to E m y) _ _ (blk E k Moment.Raised) r xs (W .cells) (W .scratch) s′ c′ (site-raised E s x f ix) Pass.jump ex),
       )
       reply-leg {m} {j} {x} {i} {k} {y} {cs} gs r xs s′ c′ s f ix false tp tw e g ex = (
         _,
         site-next E s x f ix,
-        leg-way E W t h (T .awake) m gs (x + 1) _ _ _ (blk E k 1) r xs (W .cells) (W .scratch) s′ c′
+        leg-way E W t h (T .awake) m gs (x + 1) _ _ _ (blk E k Moment.After) r xs (W .cells) (W .scratch) s′ c′
             (site-after E s x f ix) (Pass.skip refl) ex,
       )
 
       wait-reply : W .holder ≡ Some t → {m j x i k y : ℕ} {fs gs : List Frame} {cs : List Own} (r : List ℤ) (b : Bool) (a last : ℤ) → length r ≡ 8 →
-          SiteAt E m j i k y cs → Callers E fs gs → drop x (codew E m) ≡ from-host E m i k y cs → x ≡ i + 1 + length (blk E k 0) →
+          SiteAt E m j i k y cs → Callers E fs gs → drop x (codew E m) ≡ from-host E m i k y cs → x ≡ i + 1 + length (blk E k Moment.Before) →
           W .args ≡ take 4 r ++ (last ∷ []) → c ≡ take (A .width) (W .cells) → o t ≡ Some (record { number = k; args = take 4 r }) →
           thread W t ≡ thr Status.Awaiting m x r gs →
           Echoes (replied-to E false (plain-applet p) P t (thr Status.Awaiting m j r fs) b a) (Seen.reply t b a ∷ [])
       wait-reply n {m} {j} {x} {i} {k} {y} {fs} {gs} {cs} r b a last l s cl f ix ea ce eo ev ta al =
-          let tk = takes-some A (A .step (event A (moment-of b) k (take 4 r) a) c) (λ d. Takes A d (events (A .watched) (now-open t None o) rest))
-          (subst (λ i. Takes A c (cond i (event A (moment-of b) k (take 4 r) a ∷ []) [] ++ events (A .watched) (now-open t None o) rest)) (s .watch)
+          let tk = takes-some A (A .step (event A (answer-moment b) k (take 4 r) a) c) (λ d. Takes A d (events (A .watched) (now-open t None o) rest))
+          (subst (λ i. Takes A c (cond i (event A (answer-moment b) k (take 4 r) a ∷ []) [] ++ events (A .watched) (now-open t None o) rest)) (s .watch)
           (subst (λ i. Takes A c (reply-event (A .watched) i b a ++ events (A .watched) (now-open t None o) rest)) eo ta)) in
           go (tk .0) (tk .2) (owes-some A _ (tk .0) (ow (tk .0) (tk .1)))
         where
@@ -387,18 +388,18 @@ module _ (E : Setting) where
           ex : xs ≡ take 4 r ++ (a ∷ [])
           ex = ap (λ xs. set xs 4 a) ea ∙ set-at (take 4 r) last [] a 4 (length-take-le 4 r (omega arith))
 
-          ow : (d : List ℤ) → A .step (event A (moment-of b) k (take 4 r) a) c ≡ Some d →
-              Owes A (exec xs 0 (blk E k (moment-of b)) (W .cells) (W .scratch)) (Some d)
-          ow d got = subst₂ (λ a q. Owes A (exec a 0 (blk E k (moment-of b)) (W .cells) (W .scratch)) q) (sym ex)
-              (ap (A .step (event A (moment-of b) k (take 4 r) a)) (sym ce) ∙ got)
-              (owed E k (moment-of b) (moment-below b) (take 4 r) a (W .cells) (W .scratch) (length-take-le 4 r (omega arith)) (T .cells) (T .scratch))
+          ow : (d : List ℤ) → A .step (event A (answer-moment b) k (take 4 r) a) c ≡ Some d →
+              Owes A (exec xs 0 (blk E k (answer-moment b)) (W .cells) (W .scratch)) (Some d)
+          ow d got = subst₂ (λ a q. Owes A (exec a 0 (blk E k (answer-moment b)) (W .cells) (W .scratch)) q) (sym ex)
+              (ap (A .step (event A (answer-moment b) k (take 4 r) a)) (sym ce) ∙ got)
+              (owed E k (answer-moment b) (take 4 r) a (W .cells) (W .scratch) (length-take-le 4 r (omega arith)) (T .cells) (T .scratch))
 
           go : (d : List ℤ) → Takes A d (events (A .watched) (now-open t None o) rest) →
-              (s′ c′ : List ℤ) × (exec xs 0 (blk E k (moment-of b)) (W .cells) (W .scratch) ≡ Ran.reached s′ c′) × (take (A .width) s′ ≡ d) →
+              (s′ c′ : List ℤ) × (exec xs 0 (blk E k (answer-moment b)) (W .cells) (W .scratch) ≡ Ran.reached s′ c′) × (take (A .width) s′ ≡ d) →
               Echo W o (replied-to E false (plain-applet p) P t (thr Status.Awaiting m j r fs) b a) (Seen.reply t b a ∷ []) rest
           go d ta (s′, c′, re, tk) =
               let kept : KeptBy 32 8 (Ran.reached s′ c′) = subst (KeptBy 32 8) re
-              (exec-keeps xs (blk E k (moment-of b)) 0 (W .cells) (W .scratch) 32 8 (T .cells) (T .scratch)) in
+              (exec-keeps xs (blk E k (answer-moment b)) 0 (W .cells) (W .scratch) 32 8 (T .cells) (T .scratch)) in
               let lg = reply-leg gs (set r 0 a) xs s′ c′ s f ix b
               (raised-target (fetch (plain-applet p) (record { method = m; index = j; regs = r })))
               (raised-target (fetch (woven-applet A B p) (record { method = m; index = x; regs = r }))) (target-plain E false m j r (s .plain))

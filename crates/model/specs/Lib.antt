@@ -1,3 +1,5 @@
+-- moments and their numbers
+pub mod Moments
 -- what a policy means, what its blocks do, what it must show
 pub mod Policy
 -- the machine: step and answer

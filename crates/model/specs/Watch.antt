@@ -1,14 +1,16 @@
 -- The watch: one policy kept beside a run.
 use mathlib.Core.Path.{_≡_}
-use mathlib.Core.Bool.{Bool, true, false, _&&_}
+use mathlib.Core.Bool.{Bool, true, false}
 use mathlib.Core.List.{List, [], _∷_, _++_}
-use lib.Dec.{eqb, leb}
+use lib.Dec.{leb}
 use lib.ListN.{length, take, drop}
 use lib.IntN.{ℤ}
 use Rattle.std.specs.declared.option.Option.{Option}
 use Rattle.std.specs.declared.option.Option.the-variants.{Some, None}
 use Rattle.std.specs.declared.result.Result.the-variants.{Ok}
 use Rattle.model.specs.Policy.{Automaton, Event}
+use Rattle.model.specs.declared.Moment.{Moment}
+use Rattle.model.specs.Moments.{is-before}
 use Rattle.model.specs.Runs.{Accepts}
 use Rattle.model.specs.Fields.{Read, need, _>>=_, _>>_}
 use Rattle.model.specs.declared.Refusal.the-variants.{AreaTooShort, NoSuchEvent}
@@ -39,12 +41,12 @@ verdict A s before (Some c) = record { taken = true; watch = watching (c ++ drop
 -- unbegun it refuses all
 abbrev pub judged : Automaton → Event → List ℤ → Bool → Verdict
 judged A e s false = record { taken = false; watch = record { cells = s; begun = false } }
-judged A e s true = verdict A s (eqb (e .moment) 0) (A .step e (take (A .width) s))
+judged A e s true = verdict A s (is-before (e .moment)) (A .step e (take (A .width) s))
 
 -- judge: 8 and 1 come first
 abbrev pub judge : Automaton → Watch → Event → Read Verdict
 judge A w e = do
-  need (leb (e .call) 63 && leb (e .moment) 2) NoSuchEvent
+  need (leb (e .call) 63) NoSuchEvent
   need (leb (A .width) (length (w .cells))) AreaTooShort
   Ok (judged A e (w .cells) (w .begun))
 
@@ -59,7 +61,7 @@ abbrev pub AllWell : Automaton → Watch → List Event → Type 0
 AllWell A w [] = Unit {0}
 AllWell A w (e ∷ es) =
     let v = judged A e (w .cells) (w .begun) in
-    all-well-then (v .taken) (eqb (e .moment) 0) es (AllWell A (v .watch) es)
+    all-well-then (v .taken) (is-before (e .moment)) es (AllWell A (v .watch) es)
 
 -- the verdict of a watch on an event
 abbrev pub verdict-on : Automaton → Watch → Event → Verdict
@@ -72,7 +74,7 @@ pub record Watches (A : Automaton) : Type 0 where
   -- and the other way round
   pub accepts : (s : List ℤ) (es : List Event) → AllWell A (watching (A .starts ++ drop (A .width) s)) es → Accepts A (A .starts) es
   -- a refused before event leaves the watch as it is
-  pub stays : (s : List ℤ) (e : Event) → verdict-on A (watching s) e .taken ≡ false → e .moment ≡ 0 → verdict-on A (watching s) e .watch ≡ watching s
+  pub stays : (s : List ℤ) (e : Event) → verdict-on A (watching s) e .taken ≡ false → e .moment ≡ Moment.Before → verdict-on A (watching s) e .watch ≡ watching s
   -- behind a refused answer every event is refused
-  pub ends : (s : List ℤ) (e : Event) → verdict-on A (watching s) e .taken ≡ false → (e .moment ≡ 0 → ⊥) →
+  pub ends : (s : List ℤ) (e : Event) → verdict-on A (watching s) e .taken ≡ false → (e .moment ≡ Moment.Before → ⊥) →
       (d : Event) → verdict-on A (verdict-on A (watching s) e .watch) d .taken ≡ false
