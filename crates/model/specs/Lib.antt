@@ -24,6 +24,9 @@ pub mod Files
 pub mod Rules
 pub mod Tables
 pub mod Kinds
+-- what areas hold after a call, and the calls on a policy
+pub mod Areas
+pub mod Calls
 -- one policy kept beside a run
 pub mod Watch
 -- what enforcement means, over files and whole runs
