@@ -27,6 +27,7 @@ pub mod Transparent
 pub mod EnforcedFiles
 -- the three kinds show what they must
 pub mod BlockRuns
+pub mod SignedCells
 pub mod Tidy
 pub mod RuleBlocks
 pub mod TableBlocks

@@ -161,3 +161,8 @@ pub record Showing (A : Automaton) (B : Blocks) : Type 0 where
   pub runs : (k : ℕ) (t : Moment) (f : ℕ) (l c r : List ℤ) → length l ≡ f → length c ≡ A .width →
       (xs : List ℤ) (v : ℤ) (m : List ℤ) → length xs ≡ 4 → length m ≡ 8 →
       end (exec (xs ++ (v ∷ [])) 0 (B k t f) (l ++ (c ++ r)) m) ≡ due l r (A .step (record { moment = t; call = k; args = xs; answer = v }) c)
+
+-- from cells, four arguments and an answer of signed 32 bits, a step gives cells of signed 32 bits
+abbrev pub StaysSigned : Automaton → Type 0
+StaysSigned A = (e : Event) (c d : List ℤ) → length c ≡ A .width → length (e .args) ≡ 4 → All (SFits w32) c → All (SFits w32) (e .args) →
+    SFits w32 (e .answer) → A .step e c ≡ Some d → All (SFits w32) d
