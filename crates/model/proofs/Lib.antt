@@ -36,7 +36,8 @@ pub mod PairBlocks
 pub mod PolicyRoundTrip
 pub mod PolicyAccepted
 pub mod EnforcedPolicies
--- the watch
+-- the calls on a policy, and the watch
+pub mod Rows
 pub mod Watch
 -- examples
 pub mod Rehearsal

@@ -1,4 +1,5 @@
 -- The calls on a policy: what each answers, and the caller's row of cells or area after it.
+use mathlib.Core.Path.{_≡_}
 use mathlib.Core.Bool.{Bool, _||_}
 use mathlib.Core.List.{List, _++_, map}
 use Prim.Native.Nat.{ℕ, _+_, _*_, min}
@@ -88,6 +89,15 @@ step-answer A e row = stepped-row A e row >>= (λ o. Ok (verdict-of o))
 -- the row after it was to be stepped
 abbrev pub row-after : Automaton → Event → List ℤ → List ℤ
 row-after A e row = row-by row (stepped-row A e row >>= (λ o. Ok (row-behind row o)))
+
+-- what stepping a caller's row promises
+pub record RowKept (A : Automaton) : Type 0 where
+  -- the row is as long as it was
+  pub long : (e : Event) (row : List ℤ) → length (row-after A e row) ≡ length row
+  -- cells past the width never change
+  pub past : (e : Event) (row : List ℤ) → drop (A .width) (row-after A e row) ≡ drop (A .width) row
+  -- unless the event is taken, the row stays
+  pub stays : (e : Event) (row : List ℤ) → (step-answer A e row ≡ Ok Verdict.Taken → ⊥) → row-after A e row ≡ row
 
 -- a block's bytes, as files have them
 abbrev pub block-bytes : List Test → List ℕ
