@@ -28,32 +28,79 @@ small f y h = ap f (omega arith)
 
 builds : All Builds table
 unfolding table
-builds =
-    (λ n x y s h. refl,
-    (λ n x y s h. small (λ v. Some (Instr.Own (Own.Mov x v))) y (omega arith),
-    (λ n x y s h. small (λ v. Some (Instr.Own (Own.Add x v))) y (omega arith),
-    (λ n x y s h. small (λ v. Some (Instr.Own (Own.Sub x v))) y (omega arith),
-    (λ n x y s h. small (λ v. Some (Instr.Own (Own.Lt x v))) y (omega arith),
-    (λ n x y s h. small (λ v. Some (Instr.Own (Own.Eq x v))) y (omega arith),
-    (λ n x y s h. small (λ v. Some (Instr.Own (Own.Get x v))) y (omega arith),
-    (λ n x y s h. small (λ v. Some (Instr.Own (Own.Put x v))) y (omega arith),
-    (λ n x y s h. refl,
-    (λ n x y s h. refl,
-    (λ n x y s h. small (λ v. Some (Instr.Own (Own.Call v))) y (omega arith),
-    (λ n x y s h. refl,
-    (λ n x y s h. refl,
-    (λ n x y s h. refl,
-    (λ n x y s h. refl,
-    (λ n x y s h. refl,
-    (λ n x y s h. refl,
-    (λ n x y s h. refl,
-    (λ n x y s h. refl,
-    (λ n x y s h. refl,
-    (λ n x y s h. small (λ v. Some (Instr.Test (Test.Mcell x v))) y (omega arith),
-    (λ n x y s h. small (λ v. Some (Instr.Test (Test.Marg x v))) y (omega arith),
-    (λ n x y s h. small (λ v. Some (Instr.Test (Test.Store x v))) y (omega arith),
-    (λ n x y s h. small (λ v. Some (Instr.Test (Test.Op x (operator-of v)))) y (omega arith),
-    tt))))))))))))))))))))))))
+builds = (
+  λ n x y s h. refl,
+  (
+    λ n x y s h. small (λ v. Some (Instr.Own (Own.Mov x v))) y (omega arith),
+    (
+      λ n x y s h. small (λ v. Some (Instr.Own (Own.Add x v))) y (omega arith),
+      (
+        λ n x y s h. small (λ v. Some (Instr.Own (Own.Sub x v))) y (omega arith),
+        (
+          λ n x y s h. small (λ v. Some (Instr.Own (Own.Lt x v))) y (omega arith),
+          (
+            λ n x y s h. small (λ v. Some (Instr.Own (Own.Eq x v))) y (omega arith),
+            (
+              λ n x y s h. small (λ v. Some (Instr.Own (Own.Get x v))) y (omega arith),
+              (
+                λ n x y s h. small (λ v. Some (Instr.Own (Own.Put x v))) y (omega arith),
+                (
+                  λ n x y s h. refl,
+                  (
+                    λ n x y s h. refl,
+                    (
+                      λ n x y s h. small (λ v. Some (Instr.Own (Own.Call v))) y (omega arith),
+                      (
+                        λ n x y s h. refl,
+                        (
+                          λ n x y s h. refl,
+                          (
+                            λ n x y s h. refl,
+                            (
+                              λ n x y s h. refl,
+                              (
+                                λ n x y s h. refl,
+                                (
+                                  λ n x y s h. refl,
+                                  (
+                                    λ n x y s h. refl,
+                                    (
+                                      λ n x y s h. refl,
+                                      (
+                                        λ n x y s h. refl,
+                                        (
+                                          λ n x y s h. small (λ v. Some (Instr.Test (Test.Mcell x v))) y (omega arith),
+                                          (
+                                            λ n x y s h. small (λ v. Some (Instr.Test (Test.Marg x v))) y (omega arith),
+                                            (
+                                              λ n x y s h. small (λ v. Some (Instr.Test (Test.Store x v))) y (omega arith),
+                                              (
+                                                λ n x y s h. small (λ v. Some (Instr.Test (Test.Op x (operator-of v)))) y (omega arith),
+                                                tt,
+                                              ),
+                                            ),
+                                          ),
+                                        ),
+                                      ),
+                                    ),
+                                  ),
+                                ),
+                              ),
+                            ),
+                          ),
+                        ),
+                      ),
+                    ),
+                  ),
+                ),
+              ),
+            ),
+          ),
+        ),
+      ),
+    ),
+  ),
+)
 
 -- the entry behind a row
 from-row : (o : Option Entry) (r : Row) → Some r ≡ mapped ranges o → (e : Entry) × (o ≡ Some e) × (ranges e ≡ r)

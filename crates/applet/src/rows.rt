@@ -45,15 +45,25 @@ pub struct Fields<'a> {
 
 impl<'a> Part<'a> {
     pub const HEAD: u8 = 1;
+
     pub const ENTRIES: u8 = 2;
+
     pub const CELLS: u8 = 3;
+
     pub const METHOD: u8 = 4;
+
     pub const RULES_HEAD: u8 = 65;
+
     pub const RULES_STARTS: u8 = 66;
+
     pub const RULE: u8 = 67;
+
     pub const GUARD: u8 = 68;
+
     pub const UPDATE: u8 = 69;
+
     pub const TABLE_HEAD: u8 = 97;
+
     pub const TABLE_ROW: u8 = 98;
 
     // The field of a tag, if files have it.

@@ -10,6 +10,7 @@ use Rattle.std.proofs.shelf.Lists.{getD-append-add, length-replicate}
 use Rattle.std.specs.declared.option.Option.{Option}
 use Rattle.std.specs.declared.option.Option.the-variants.{Some, None}
 use Rattle.std.specs.shelf.Lists.{All}
+use Rattle.model.specs.declared.Moment.{Moment}
 use Rattle.model.specs.declared.Own.{Own}
 use Rattle.model.specs.declared.Test.{Test}
 use Rattle.model.specs.declared.Instr.{Instr}
@@ -27,7 +28,7 @@ rank-pad zero es t h = (t, omega arith, h, refl)
 rank-pad (suc n) es zero h = absurd (false≢true h)
 rank-pad (suc n) es (suc t) h = let (s, p, q, r) = rank-pad n es t h in (s, omega arith, q, r)
 
-module _ (block : ℕ → ℕ → List Test) where
+module _ (block : ℕ → Moment → List Test) where
   marks-past : (xs rest : List Instr) (n : ℕ) → n ≡ length xs → marks block n (xs ++ rest) ≡ replicate n false ++ marks block zero rest
   marks-past [] rest zero p = refl
   marks-past [] rest (suc n) p = absurd (omega arith)
@@ -51,7 +52,7 @@ module _ (block : ℕ → ℕ → List Test) where
       let q : i + behind block k + 1 ≡ i + suc (behind block k) = omega arith in
       rw (append-assoc (inner block i k)) (past ∙ ap (λ m. cond (getD es t false) (stray block es m zero rest) (fault NoEntry (i + behind block k))) q)
 
-module _ (watched : ℕ → Bool) (block : ℕ → ℕ → List Test) where
+module _ (watched : ℕ → Bool) (block : ℕ → Moment → List Test) where
   -- which indices of laid code are entries
   abbrev pub flags : List Own → List Bool
   flags [] = []

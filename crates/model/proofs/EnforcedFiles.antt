@@ -14,6 +14,7 @@ use Rattle.std.proofs.shelf.Tests.{ltb-true, leb-true, le-leb, eqb-true, eq-eqb
 use Rattle.std.specs.declared.option.Option.{Option}
 use Rattle.std.specs.declared.option.Option.the-variants.{Some, None}
 use Rattle.std.specs.declared.result.Result.the-variants.{Ok}
+use Rattle.model.specs.declared.Moment.{Moment}
 use Rattle.model.specs.declared.Own.{Own}
 use Rattle.model.specs.declared.Test.{Test}
 use Rattle.model.specs.declared.Test.the-variants.{Skip, Skz, Viol, Mset, Mcell, Marg, Store, Op}
@@ -94,7 +95,7 @@ sound-targeted n cs h = sound-aimed n (length cs) 0 cs (rw (length-map cs Instr.
 
 -- ---- the code of sites is what its bytes say
 
-formed-remade : (t low high : ℕ) (c : Test) → Formed t low high c → Remade (Instr.Test c)
+formed-remade : (t : Moment) (low high : ℕ) (c : Test) → Formed t low high c → Remade (Instr.Test c)
 unfolding table
 formed-remade t low high (Skip n) h = (_, refl, refl)
 formed-remade t low high (Skz x n) h = (_, refl, refl)
@@ -115,22 +116,22 @@ unlock-remade = (_, refl, refl)
 
 module _ (A : Automaton) (B : Blocks) (S : Offers A B) where
   -- the blocks from cell 0 on
-  abbrev blk : ℕ → ℕ → List Test
+  abbrev blk : ℕ → Moment → List Test
   blk k t = B k t 0
 
-  tests-remade : (k t : ℕ) → All Remade (map Instr.Test (blk k t))
+  tests-remade : (k : ℕ) (t : Moment) → All Remade (map Instr.Test (blk k t))
   tests-remade k t = all-map Remade Instr.Test (blk k t)
       (all-weaker (Formed t 0 (0 + A .width)) (λ c. Remade (Instr.Test c)) (formed-remade t 0 (0 + A .width)) (blk k t) (S .shows .formed k t 0))
 
   site-remade : (i k : ℕ) → All Remade (inner blk i k)
   site-remade i k =
-      all-append Remade (map Instr.Test (blk k 0)) _ (tests-remade k 0) (
+      all-append Remade (map Instr.Test (blk k Moment.Before)) _ (tests-remade k Moment.Before) (
         host-remade k _,
-        all-append Remade (map Instr.Test (blk k 1)) _ (tests-remade k 1) (
+        all-append Remade (map Instr.Test (blk k Moment.After)) _ (tests-remade k Moment.After) (
           unlock-remade,
           (
-            formed-remade 0 0 0 (Skip _) tt,
-            all-append Remade (map Instr.Test (blk k 2)) _ (tests-remade k 2)
+            formed-remade Moment.Before 0 0 (Skip _) tt,
+            all-append Remade (map Instr.Test (blk k Moment.Raised)) _ (tests-remade k Moment.Raised)
                 (unlock-remade, tt),
           ),
         ),

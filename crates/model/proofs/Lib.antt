@@ -2,6 +2,7 @@
 pub mod Options
 pub mod Base
 -- what is written is read back, what is read is valid, and where it stands
+pub mod Moments
 pub mod Words
 pub mod RoundTrip
 pub mod Accepted
@@ -30,6 +31,7 @@ pub mod EnforcedFiles
 pub mod Stripping
 -- the three kinds show what they must
 pub mod BlockRuns
+pub mod SignedCells
 pub mod Tidy
 pub mod RuleBlocks
 pub mod TableBlocks
@@ -38,7 +40,8 @@ pub mod PairBlocks
 pub mod PolicyRoundTrip
 pub mod PolicyAccepted
 pub mod EnforcedPolicies
--- the watch
+-- the calls on a policy, and the watch
+pub mod Rows
 pub mod Watch
 -- examples
 pub mod Rehearsal

@@ -25,6 +25,8 @@ use Rattle.model.specs.Rules.{Token, constant, cell, argument, operator, Expr,
 use Rattle.model.specs.Rules.{tokens, both, balanced, checked, read-updates, read-rule, read-rule-list, read-rules, token-bytes, expr-bytes}
 use Rattle.model.specs.Rules.{update-bytes, rule-bytes, write-rules, Valid-token, Valid-expr, Valid-update, Valid-rule, Valid-rules}
 use Rattle.model.proofs.Words.{high-word, low-word, length-flat, flat-quads}
+use Rattle.model.specs.Moments.{moment-number, moment-of}
+use Rattle.model.proofs.Moments.{moment-there}
 use Rattle.model.proofs.Options.{none-some}
 use Rattle.model.proofs.Accepted.{ByteField, starts-signed, err-ok, bound, needed, within-true, every-true, met, whole-quads, starts-is, two-bytes}
 use Rattle.model.specs.declared.Refusal.the-variants.{BadPolicyField, BadExpression}
@@ -85,10 +87,10 @@ module _ (n : ℕ) where
       let t = tested-is _ _ _ _ e in
       let a = all-four (eqb (length c) (2 + n)) (leb (getD c 0 0) 63) (leb (getD c 1 0) 2) (every (λ q. ltb q n || eqb q 255) (drop 2 c)) (t .0) in
       let l = eqb-true _ _ (a .0) in
-      let m = at-two c (omega arith) in
+      let m = ap {B = List ℕ} (λ t. getD c 0 0 ∷ t ∷ drop 2 c) (moment-there (getD c 1 0) (leb-true _ _ (a .2))) ∙ at-two c (omega arith) in
       let q = every-true (λ q. ltb q n || eqb q 255) (λ q. (q < n) ⊎ (q ≡ 255))
       (λ q h. elim (or-cases _ _ h) [ inl u ↦ inl (ltb-true _ _ u) | inr v ↦ inr (eqb-true _ _ v) ]) (drop 2 c) (a .3) in
-      rw (← t .1) (λ b. (refl, tt), (ap (field 98) m, (leb-true _ _ (a .1), leb-true _ _ (a .2), rw (length-drop 2 c) (omega arith), q)))
+      rw (← t .1) (λ b. (refl, tt), (ap (field 98) m, (leb-true _ _ (a .1), rw (length-drop 2 c) (omega arith), q)))
 
 read-rows-is : (n : ℕ) (known : List Row) (xs : List Field) (rs : List Row) → All (Rowed n) xs → read-rows known xs ≡ Ok rs →
     (joined row-bytes rs ≡ joined (λ x. field 98 (x .contents)) xs) × (length rs ≡ length xs) × All (Valid-row n) rs × Apart known rs
@@ -211,12 +213,11 @@ module _ (n : ℕ) where
 
   -- the contents of a rule's field
   abbrev raw-bytes : Raw → List ℕ
-  raw-bytes r = r .call ∷ r .moment ∷ field 68 (r .guard .contents) ++ joined (λ x. field 69 (x .contents)) (r .updates)
+  raw-bytes r = r .call ∷ moment-number (r .moment) ∷ field 68 (r .guard .contents) ++ joined (λ x. field 69 (x .contents)) (r .updates)
 
   -- a rule whose fields were read
   pub record Ruled (r : Raw) : Type 0 where
     pub call : r .call ≤ 63
-    pub moment : r .moment ≤ 2
     pub sized : triples 1 32 (r .guard .contents) ≡ true
     pub few : length (r .updates) ≤ 8
     pub updates : All Updated (r .updates)
@@ -235,16 +236,16 @@ module _ (n : ℕ) where
       let m = met BadPolicyField 68 (p + 5) (drop 2 c) g eg in
       let s = tested-is _ _ _ _ et in
       let f = fields-is 69 (update-field n) (λ x. x .contents) ByteField Updated update-field-is 8 _ (g .rest) us eu in
-      let q : Raw = record { call = getD c 0 0; moment = getD c 1 0; guard = record { place = p + 5; contents = g .contents }; updates = us } in
+      let q : Raw = record { call = getD c 0 0; moment = moment-of (getD c 1 0); guard = record { place = p + 5; contents = g .contents }; updates = us } in
       let z : q ≡ r = rw (s .1) cc in
       let w : Bytes c → (raw-bytes q ≡ c) × ByteRaw q = (λ b.
       let d = all-drop (λ b. b < 256) 2 c b in
       let i = f .0 (m .rest d) in (
-        ap {B = List ℕ} (λ d. getD c 0 0 ∷ getD c 1 0 ∷ d) (ap (λ d. field 68 (g .contents) ++ d) (i .0) ∙ m .split d) ∙ at-two c
+        ap₂ {C = List ℕ} (λ t d. getD c 0 0 ∷ t ∷ d) (moment-there (getD c 1 0) (leb-true _ _ (a .2))) (ap (λ d. field 68 (g .contents) ++ d) (i .0) ∙ m .split d) ∙ at-two c
             (leb-true _ _ (a .0)),
         (m .contents d, i .1),
       )) in
-      rw (← z) (w, record { call = leb-true _ _ (a .1); moment = leb-true _ _ (a .2); sized = s .0; few = f .1; updates = f .2 })
+      rw (← z) (w, record { call = leb-true _ _ (a .1); sized = s .0; few = f .1; updates = f .2 })
 
   read-rule-is : (x : Raw) (r : Rule) → Ruled x → read-rule n x ≡ Ok r → (ByteRaw x → rule-bytes r ≡ field 67 (raw-bytes x)) × Valid-rule n r
   read-rule-is x r h e =
@@ -254,8 +255,8 @@ module _ (n : ℕ) where
       let u = read-updates-is (arguments (x .moment)) (x .updates) us (h .updates) eu in
       let z : record { call = x .call; moment = x .moment; guard = g; updates = us } ≡ r = cc in
       rw (← z) (
-        λ b. ap₂ (λ d d′. field 67 (x .call ∷ x .moment ∷ field 68 d ++ d′)) (c .0 (b .0)) (u .0 (b .1)),
-        record { call = h .call; moment = h .moment; guard = c .1; few = rw (u .1) (h .few); updates = u .2 },
+        λ b. ap₂ (λ d d′. field 67 (x .call ∷ moment-number (x .moment) ∷ field 68 d ++ d′)) (c .0 (b .0)) (u .0 (b .1)),
+        record { call = h .call; guard = c .1; few = rw (u .1) (h .few); updates = u .2 },
       )
 
   read-rule-list-is : (xs : List Raw) (rs : List Rule) → All Ruled xs → read-rule-list n xs ≡ Ok rs →

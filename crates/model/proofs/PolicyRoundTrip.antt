@@ -23,6 +23,8 @@ use Rattle.model.specs.Policy.{arguments}
 use Rattle.model.specs.Rules.{constant, cell, argument, operator, Expr, Update, Rule, Rules, Raw, triples, update-field, rule-field, tokens, both}
 use Rattle.model.specs.Rules.{balanced, checked, read-updates, read-rule, read-rule-list, read-rules, expr-bytes, update-bytes, rule-bytes}
 use Rattle.model.specs.Rules.{write-rules, Valid-token, Valid-expr, Valid-update, Valid-rule, Valid-rules}
+use Rattle.model.specs.Moments.{moment-number}
+use Rattle.model.proofs.Moments.{moment-back, moment-small}
 use Rattle.model.proofs.Places.{length-field}
 use Rattle.model.proofs.Words.{word-halves, length-flat}
 use Rattle.model.proofs.RoundTrip.{expect-field, within-from, every-from, starts-back}
@@ -51,7 +53,7 @@ module _ {X Y : Type 0} (tag : ℕ) (one : ℕ → List ℕ → Read X) (bytes :
 
 -- tables
 abbrev row-contents : Row → List ℕ
-row-contents r = r .call ∷ r .moment ∷ r .nexts
+row-contents r = r .call ∷ moment-number (r .moment) ∷ r .nexts
 
 -- a row as it is kept between the two passes
 abbrev kept-row : ℕ → Row → Field
@@ -66,15 +68,15 @@ unfolding _>>=_
 row-field-write n p r h = rw (
   eq-eqb (length (row-contents r)) (2 + n) (omega arith),
   le-leb (r .call) 63 (h .0),
-  le-leb (r .moment) 2 (h .1),
-  every-from (λ q. ltb q n || eqb q 255) (λ q. (q < n) ⊎ (q ≡ 255)) (next-state n) (r .nexts) (h .3),
+  le-leb (moment-number (r .moment)) 2 (moment-small (r .moment)),
+  every-from (λ q. ltb q n || eqb q 255) (λ q. (q < n) ⊎ (q ≡ 255)) (next-state n) (r .nexts) (h .2),
 )
 
 read-rows-write : (n : ℕ) (known : List Row) (p : ℕ) (rs : List Row) → Apart known rs →
     read-rows known (results 98 (row-field n) row-contents kept-row p rs) ≡ Ok rs
 unfolding _>>=_
 read-rows-write n known p [] h = refl
-read-rows-write n known p (r ∷ rs) h = rw (h .0, read-rows-write n (r ∷ known) (p + (3 + length (row-contents r))) rs (h .1))
+read-rows-write n known p (r ∷ rs) h = rw (moment-back (r .moment), h .0, read-rows-write n (r ∷ known) (p + (3 + length (row-contents r))) rs (h .1))
 
 pub table-round : (t : Table) → Valid-table t → length (write-table t) ≤ 65535 → read-table (write-table t) ≡ Ok t
 unfolding _>>=_
@@ -143,7 +145,7 @@ module _ (n a : ℕ) where
 
 -- the contents of tag 67
 abbrev rule-contents : Rule → List ℕ
-rule-contents r = r .call ∷ r .moment ∷ field 68 (expr-bytes (r .guard)) ++ joined update-bytes (r .updates)
+rule-contents r = r .call ∷ moment-number (r .moment) ∷ field 68 (expr-bytes (r .guard)) ++ joined update-bytes (r .updates)
 
 -- a rule as it is kept between the two passes
 abbrev kept-rule : ℕ → ℕ → Rule → Raw
@@ -166,7 +168,8 @@ module _ (n : ℕ) where
       rw (
         le-leb 2 (length (rule-contents r)) (omega arith),
         le-leb (r .call) 63 (h .call),
-        le-leb (r .moment) 2 (h .moment),
+        le-leb (moment-number (r .moment)) 2 (moment-small (r .moment)),
+        moment-back (r .moment),
         expect-field BadPolicyField 68 (p + 5) (expr-bytes (r .guard)) (joined update-bytes (r .updates)) (omega arith),
         triples-write n a (r .guard) (h .guard),
         fields-write 69 (update-field n) update-contents kept-update 8 (p + 5 + (3 + length (expr-bytes (r .guard)))) (r .updates) (h .few) us,

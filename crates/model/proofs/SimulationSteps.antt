@@ -12,11 +12,13 @@ use Rattle.std.proofs.shelf.Lists.{drop-all}
 use Rattle.std.specs.declared.option.Option.{Option}
 use Rattle.std.specs.declared.option.Option.the-variants.{Some, None}
 use Rattle.std.proofs.shelf.Tests.{eq-eqb, ne-eqb, lt-ltb}
+use Rattle.model.specs.declared.Moment.{Moment}
 use Rattle.model.specs.declared.Own.{Own}
 use Rattle.model.specs.declared.Instr.{Instr}
 use Rattle.model.specs.Policy.{Event, exec, Ran, end, due}
 use Rattle.model.specs.declared.Outcome.{Outcome}
-use Rattle.model.specs.Machine.{with-thread, with-shared, Applet, Machine, Thread, Frame, Status, Stepped, Local, thread, new-thread, step}
+use Rattle.model.specs.declared.Status.{Status}
+use Rattle.model.specs.Machine.{with-thread, with-shared, Applet, Machine, Thread, Frame, Stepped, Local, thread, new-thread, step}
 use Rattle.model.specs.Machine.{answer, admit, by-status, own-step, local, answered, call-in}
 use Rattle.model.specs.Runs.{Act, Seen, Open, now-open, events, seen-of, after, shown, replied}
 use Rattle.model.specs.Weave.{plain-applet, retarget}
@@ -88,15 +90,15 @@ module _ (E : Setting) where
   -- ---- what a block owes
 
   pub blind : (k : ℕ) (xs : List ℤ) (v y : ℤ) (s : List ℤ) → length xs ≡ 4 → length s ≡ 32 →
-      A .step (event A 0 k xs v) (take (A .width) s) ≡ A .step (event A 0 k xs y) (take (A .width) s)
+      A .step (event A Moment.Before k xs v) (take (A .width) s) ≡ A .step (event A Moment.Before k xs y) (take (A .width) s)
   blind k xs v y s lx ls = S .shows .blind k xs v y (take (A .width) s) lx (length-take-le (A .width) s (omega (arith, S .narrow)))
 
-  pub owed : (k t : ℕ) → t < 3 → (xs : List ℤ) (v : ℤ) (s c : List ℤ) → length xs ≡ 4 → length s ≡ 32 → length c ≡ 8 →
+  pub owed : (k : ℕ) (t : Moment) (xs : List ℤ) (v : ℤ) (s c : List ℤ) → length xs ≡ 4 → length s ≡ 32 → length c ≡ 8 →
       Owes A (exec (xs ++ (v ∷ [])) 0 (blk E k t) s c) (A .step (event A t k xs v) (take (A .width) s))
-  owed k t below xs v s c lx ls lc =
+  owed k t xs v s c lx ls lc =
       go (exec (xs ++ (v ∷ [])) 0 (blk E k t) s c) (A .step (event A t k xs v) mine) (λ d. S .shows .keeps (event A t k xs v) mine d wide)
       (subst (λ y. end (exec (xs ++ (v ∷ [])) 0 (blk E k t) y c) ≡ due [] (drop (A .width) s) (A .step (event A t k xs v) mine)) (take-append-drop (A .width) s)
-      (S .shows .runs k t 0 below [] mine (drop (A .width) s) refl wide xs v c lx lc))
+      (S .shows .runs k t 0 [] mine (drop (A .width) s) refl wide xs v c lx lc))
     where
       mine : List ℤ
       mine = take (A .width) s
@@ -231,17 +233,17 @@ module _ (E : Setting) (z : Bool) where
   -- a thread that is ready, outside of a site
   pub data Ready (o : Option Open) (m j x : ℕ) (r : List ℤ) (fs gs : List Frame) : Type 0 where
     own : (c d : Own) → getD (drop j (code E m)) 0 Own.End ≡ c → getD (drop x (codew E m)) 0 (Instr.Own Own.End) ≡ Instr.Own d →
-        ((g : List ℤ) → Alike o (local c (thr Status.ready m j r fs) g) (local d (thr Status.ready m x r gs) g)) → Ready o m j x r fs gs
+        ((g : List ℤ) → Alike o (local c (thr Status.Ready m j r fs) g) (local d (thr Status.Ready m x r gs) g)) → Ready o m j x r fs gs
     watched : (k n : ℕ) (cs : List Own) → SiteAt E m j x k n cs → Ready o m j x r fs gs
 
   module _ (o : Option Open) (m j x : ℕ) (r : List ℤ) (fs gs : List Frame) (l : length r ≡ 8) (cl : Callers E fs gs) where
     returning : (g : List ℤ) {fs gs : List Frame} → Callers E fs gs →
-        Alike o (local Own.Ret (thr Status.ready m j r fs) g) (local Own.Ret (thr Status.ready m x r gs) g)
+        Alike o (local Own.Ret (thr Status.Ready m j r fs) g) (local Own.Ret (thr Status.Ready m x r gs) g)
     returning g Callers.none = record { shared = refl; says = refl; free = Free.ended; quiet = tt }
     returning g (Callers.more {r = r′} k a c) = alike g (Free.ready (length-set r′ 0 _ ∙ k) a c)
 
     calling : (g : List ℤ) (b : Bool) (k : ℕ) → At E m (j + 1) (x + 1) →
-        Alike o (call-in b (thr Status.ready m j r fs) g k) (call-in b (thr Status.ready m x r gs) g k)
+        Alike o (call-in b (thr Status.Ready m j r fs) g k) (call-in b (thr Status.Ready m x r gs) g k)
     calling g true k a = alike g (Free.ready (simp (length-append, length-take) (omega arith)) (record { here = refl }) (Callers.more l a cl))
     calling g false k a = record { shared = refl; says = refl; free = Free.ended; quiet = tt }
 

@@ -14,6 +14,7 @@ use Rattle.std.specs.declared.result.Result.the-variants.{Ok}
 use Rattle.model.specs.declared.Own.{Own}
 use Rattle.model.specs.declared.Test.{Test}
 use Rattle.model.specs.declared.Instr.{Instr}
+use Rattle.model.specs.declared.Moment.{Moment}
 use Rattle.model.specs.Policy.{Automaton, Blocks}
 use Rattle.model.specs.Weave.{Plain, plain-applet, woven-applet, target, Aims, Targeted, retarget, Watched, watched-call, inner, site}
 use Rattle.model.specs.Weave.{piece, more, size, laid, start, woven}
@@ -33,7 +34,7 @@ rank-past (suc n) es t = rw suc-add (rank-past n es t)
 
 module _ (B : Blocks) where
   -- the blocks from cell 0 on
-  abbrev blk : ℕ → ℕ → List Test
+  abbrev blk : ℕ → Moment → List Test
   blk k t = B k t 0
 
   unsited-past : (xs rest : List Instr) (n : ℕ) → n ≡ length xs → unsited B n (xs ++ rest) ≡ unsited B zero rest

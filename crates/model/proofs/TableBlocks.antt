@@ -13,6 +13,7 @@ use Rattle.std.specs.shelf.Lists.{All}
 use Rattle.std.proofs.shelf.Tests.{or-parts, eq-eqb, ne-eqb, cond-both, and-right, cases-eq}
 use Rattle.std.specs.declared.option.Option.{Option}
 use Rattle.std.specs.declared.option.Option.the-variants.{Some, None}
+use Rattle.model.specs.declared.Moment.{Moment}
 use Rattle.model.specs.declared.Test.{Test}
 use Rattle.model.specs.declared.Test.the-variants.{Skip, Skz, Mset, Mcell, Store, Op}
 use Rattle.model.specs.Policy.{Showing, exec, reached, stopped, Ran, End, end, due, eqZ, flag}
@@ -115,7 +116,7 @@ keeps-row c (Some ns) d e = go (getD c 0 (pos 0)) e
         (λ t q. absurd (none-some q)) (λ t q. let z : set c 0 (pos (getD ns v 255)) ≡ d = cc in ap length (sym z) ∙ length-set c 0 (pos (getD ns v 255))) e
     go (negsuc v) e = absurd (none-some e)
 
-no-row : (k t : ℕ) (rs : List Row) → has-row k rs ≡ false → row-of rs k t ≡ None
+no-row : (k : ℕ) (t : Moment) (rs : List Row) → has-row k rs ≡ false → row-of rs k t ≡ None
 no-row k t [] h = refl
 no-row k t (r ∷ rs) h = let p = or-parts (eqb (r .call) k) (has-row k rs) h in rw (p .0) (no-row k t rs (p .1))
 
@@ -137,13 +138,13 @@ placed-row : (f g : ℕ) (o : Option (List ℕ)) → length (row-block f o) ≡ 
 placed-row f g None = refl
 placed-row f g (Some ns) = states-placed f g 0 ns
 
-row-within : (n k t : ℕ) (rs : List Row) (ns : List ℕ) → All (Valid-row n) rs → row-of rs k t ≡ Some ns → (length ns ≡ n) × All (λ q. (q < n) ⊎ (q ≡ 255)) ns
+row-within : (n k : ℕ) (t : Moment) (rs : List Row) (ns : List ℕ) → All (Valid-row n) rs → row-of rs k t ≡ Some ns → (length ns ≡ n) × All (λ q. (q < n) ⊎ (q ≡ 255)) ns
 row-within n k t [] ns h e = absurd (none-some e)
 row-within n k t (r ∷ rs) ns h e =
     cond-both (row-for k t r) (Some (r .nexts)) (row-of rs k t) (λ x. x ≡ Some ns → (length ns ≡ n) × All (λ q. (q < n) ⊎ (q ≡ 255)) ns)
-    (λ y q. let z : r .nexts ≡ ns = cc in rw (← z) (h .0 .2, h .0 .3)) (λ y q. row-within n k t rs ns (h .1) q) e
+    (λ y q. let z : r .nexts ≡ ns = cc in rw (← z) (h .0 .1, h .0 .2)) (λ y q. row-within n k t rs ns (h .1) q) e
 
-tidy-row : (t f n : ℕ) (o : Option (List ℕ)) → n ≤ 16 → ((ns : List ℕ) → o ≡ Some ns → (length ns ≡ n) × All (λ q. (q < n) ⊎ (q ≡ 255)) ns) →
+tidy-row : (t : Moment) (f n : ℕ) (o : Option (List ℕ)) → n ≤ 16 → ((ns : List ℕ) → o ≡ Some ns → (length ns ≡ n) × All (λ q. (q < n) ⊎ (q ≡ 255)) ns) →
     Tidy t f (f + 1) (row-block f o)
 tidy-row t f n None l h = tt
 tidy-row t f n (Some ns) l h =
@@ -161,8 +162,8 @@ table-showing p g = record {
   unwatched = λ k t f h. ap (row-block f) (no-row k t (p .rows) h);
   formed = λ k t f. tidy-formed t f (f + 1) (table-block p k t f) (tidy k t f);
   enclosed = λ k t f. tidy-enclosed t f (f + 1) (table-block p k t f) (tidy k t f);
-  runs = λ k t f b l c r lf lc xs v m lx lm. row-runs (xs ++ (v ∷ [])) f l c r m (row-of (p .rows) k t) lf lc lm;
+  runs = λ k t f l c r lf lc xs v m lx lm. row-runs (xs ++ (v ∷ [])) f l c r m (row-of (p .rows) k t) lf lc lm;
 }
   where
-    tidy : (k t f : ℕ) → Tidy t f (f + 1) (table-block p k t f)
+    tidy : (k : ℕ) (t : Moment) (f : ℕ) → Tidy t f (f + 1) (table-block p k t f)
     tidy k t f = tidy-row t f (p .states) (row-of (p .rows) k t) (g .states .1) (λ ns e. row-within (p .states) k t (p .rows) ns (g .rows) e)

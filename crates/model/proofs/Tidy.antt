@@ -12,6 +12,7 @@ use mir.Syntax.{w16}
 use mir.Val.{SFits}
 use Rattle.std.specs.shelf.Lists.{All}
 use Rattle.std.proofs.shelf.Tests.{leb-true, ltb-true, and-parts}
+use Rattle.model.specs.declared.Moment.{Moment}
 use Rattle.model.specs.declared.Test.{Test}
 use Rattle.model.specs.declared.Test.the-variants.{Skip, Skz, Mset, Mcell, Store, Op}
 use Rattle.model.specs.Policy.{arguments, Formed, reach, Enclosed}
@@ -20,7 +21,7 @@ use Rattle.model.specs.Rules.{Valid-update, Valid-rule}
 use Rattle.model.specs.Tables.{states-block}
 use Rattle.model.specs.declared.Operator.the-variants.{Equal}
 
-module _ (t low high : ℕ) where
+module _ (t : Moment) (low high : ℕ) where
   -- both that the tests are formed, and that they are enclosed
   abbrev pub Tidy : List Test → Type 0
   Tidy [] = Unit {0}
@@ -38,7 +39,7 @@ module _ (t low high : ℕ) where
   tidy-append [] ys h k = k
   tidy-append (x ∷ xs) ys h k = ((h .0 .0, rw (length-append xs ys) (omega (arith, h .0 .1))), tidy-append xs ys (h .1) k)
 
-module _ (t f w : ℕ) where
+module _ (t : Moment) (f w : ℕ) where
   tidy-emit : (d : ℕ) (e : Expr) → d ≤ 8 → All (Valid-token w (arguments t)) e → balanced d e ≡ true → Tidy t f (f + w) (emit f d e)
   tidy-emit d [] u g b = tt
   tidy-emit d (constant z ∷ e) u g b =

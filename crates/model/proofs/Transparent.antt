@@ -12,14 +12,16 @@ use lib.IntN.{ℤ, pos}
 use Rattle.std.specs.declared.option.Option.{Option}
 use Rattle.std.specs.declared.option.Option.the-variants.{Some, None}
 use Rattle.std.proofs.shelf.Tests.{eq-eqb, ne-eqb, ltb-true, false≢true}
+use Rattle.model.specs.declared.Moment.{Moment}
 use Rattle.model.specs.declared.Own.{Own}
 use Rattle.model.specs.declared.Test.{Test}
 use Rattle.model.specs.declared.Instr.{Instr}
 use Rattle.model.specs.Policy.{Automaton, turn, Turn, exec, Ran}
 use Rattle.model.specs.declared.Outcome.{Outcome}
-use Rattle.model.specs.Machine.{with-shared, Applet, Machine, Thread, Frame, Status, Stepped, Local, thread, new-thread, fetch, step, answer}
+use Rattle.model.specs.declared.Status.{Status}
+use Rattle.model.specs.Machine.{with-shared, Applet, Machine, Thread, Frame, Stepped, Local, thread, new-thread, fetch, step, answer}
 use Rattle.model.specs.Machine.{admit, by-status, run-instr, own-step, local, answered, test-step, unlock-step, holds, resume, raised-target}
-use Rattle.model.specs.Runs.{Act, Seen, Open, run, trace, act, sees, events, seen-of, after, shown, replied, moment-of, now-open, reply-event}
+use Rattle.model.specs.Runs.{Act, Seen, Open, run, trace, act, sees, events, seen-of, after, shown, replied, answer-moment, now-open, reply-event}
 use Rattle.model.specs.Weave.{plain-applet, woven-applet}
 use Rattle.model.proofs.Options.{not-both, some-same}
 use Rattle.model.proofs.Base.{drop-next, drop-more, turn-keeps, Kept}
@@ -29,7 +31,7 @@ use Rattle.model.specs.Enforcement.{Takes, takes-then, free-then, closed, Alon
 use Rattle.model.specs.Files.{loaded}
 use Rattle.model.proofs.SimulationSteps.{unmoved, Quiet, opens-here, opens-there, shut-there, blind, last-of, step-in, answer-in, owed, tied-set}
 use Rattle.model.proofs.SimulationSteps.{Alike, at-target, own-tied, Ready, ready-at}
-use Rattle.model.proofs.Faithful.{moment-below, holds-it, site-after, site-raised, site-next, replied-to, target-plain, target-woven, free-replied}
+use Rattle.model.proofs.Faithful.{holds-it, site-after, site-raised, site-next, replied-to, target-plain, target-woven, free-replied}
 use Rattle.model.proofs.Faithful.{by-holder}
 use Rattle.model.proofs.FaithfulRuns.{trace-append, tied-fresh, faithful}
 
@@ -74,7 +76,7 @@ quiet-takes : (A : Automaton) (c : List ℤ) (o : ℕ → Option Open) (t : ℕ)
     Takes A c (events (A .watched) o (seen-of t s ++ rest)) → Takes A c (events (A .watched) (opens o (seen-of t s)) rest)
 quiet-takes A c o t Outcome.Moved rest q h = h
 quiet-takes A c o t (Outcome.Called k xs) rest q h = subst
-    (λ b. Takes A c (cond b (record { moment = 0; call = k; args = xs; answer = pos 0 } ∷ []) [] ++ events (A .watched) (opened t k xs o) rest)) q h
+    (λ b. Takes A c (cond b (record { moment = Moment.Before; call = k; args = xs; answer = pos 0 } ∷ []) [] ++ events (A .watched) (opened t k xs o) rest)) q h
 quiet-takes A c o t (Outcome.Ended n) rest q h = h
 quiet-takes A c o t Outcome.Stop rest q h = h
 
@@ -128,23 +130,23 @@ module _ (E : Setting) (W : Machine) (t : ℕ) (h : t < length (W .threads)) (aw
 
   way-instr : (x : ℕ) (r : List ℤ) (i : Instr) (is : List Instr) → drop x (codew E m) ≡ i ∷ is →
       (a s c : List ℤ) (ho : Option ℕ) (v : Thread) (a′ s′ c′ : List ℤ) (ho′ : Option ℕ) (oc : Outcome) →
-      run-instr i (at-thread W t (thr Status.ready m x r gs) a s c ho) t (thr Status.ready m x r gs) ≡ Stepped.done
-      (at-thread (at-thread W t (thr Status.ready m x r gs) a s c ho) t v a′ s′ c′ ho′) oc →
-      Way wp (at-thread W t (thr Status.ready m x r gs) a s c ho) (at-thread W t v a′ s′ c′ ho′) (seen-of t oc)
+      run-instr i (at-thread W t (thr Status.Ready m x r gs) a s c ho) t (thr Status.Ready m x r gs) ≡ Stepped.done
+      (at-thread (at-thread W t (thr Status.Ready m x r gs) a s c ho) t v a′ s′ c′ ho′) oc →
+      Way wp (at-thread W t (thr Status.Ready m x r gs) a s c ho) (at-thread W t v a′ s′ c′ ho′) (seen-of t oc)
   way-instr x r i is f a s c ho v a′ s′ c′ ho′ oc e = way-step wp t oc
-      (step-in wp (at-thread W t (thr Status.ready m x r gs) a s c ho) t (rw (length-set (W .threads) t (thr Status.ready m x r gs)) h) aw
-      ∙ ap (λ u. by-status wp (at-thread W t (thr Status.ready m x r gs) a s c ho) t u (u .status))
-      (getD-set-same (W .threads) t (thr Status.ready m x r gs) (new-thread 0) h)
-      ∙ ap (λ i. run-instr i (at-thread W t (thr Status.ready m x r gs) a s c ho) t (thr Status.ready m x r gs))
+      (step-in wp (at-thread W t (thr Status.Ready m x r gs) a s c ho) t (rw (length-set (W .threads) t (thr Status.Ready m x r gs)) h) aw
+      ∙ ap (λ u. by-status wp (at-thread W t (thr Status.Ready m x r gs) a s c ho) t u (u .status))
+      (getD-set-same (W .threads) t (thr Status.Ready m x r gs) (new-thread 0) h)
+      ∙ ap (λ i. run-instr i (at-thread W t (thr Status.Ready m x r gs) a s c ho) t (thr Status.Ready m x r gs))
       (fetch-woven E m x r ∙ ap (λ y. getD y 0 (Instr.Own Own.End)) f)
       ∙ e ∙ ap (λ n. Stepped.done n oc) (again W t _ v a s c a′ s′ c′ ho ho′))
 
   block-way : (r a s′ c′ : List ℤ) (ho : Option ℕ) (Z : List Instr) (b : List Test) (n x y e : ℕ) → y ≡ x + n → e ≡ x + length b →
       drop x (codew E m) ≡ map Instr.Test b ++ Z → (s c : List ℤ) → exec a n b s c ≡ Ran.reached s′ c′ →
-      Way wp (at-thread W t (thr Status.ready m y r gs) a s c ho) (at-thread W t (thr Status.ready m e r gs) a s′ c′ ho) []
+      Way wp (at-thread W t (thr Status.Ready m y r gs) a s c ho) (at-thread W t (thr Status.Ready m e r gs) a s′ c′ ho) []
   block-way r a s′ c′ ho Z [] zero x y e i k f s c g =
       let ey : y ≡ e = omega arith in let es : s ≡ s′ = cc in let ec : c ≡ c′ = cc in
-      record { acts = []; same = refl; ends = λ ι. at-thread W t (thr Status.ready m (ey ι) r gs) a (es ι) (ec ι) ho }
+      record { acts = []; same = refl; ends = λ ι. at-thread W t (thr Status.Ready m (ey ι) r gs) a (es ι) (ec ι) ho }
   block-way r a s′ c′ ho Z [] (suc n) x y e i k f s c g = let z : _≡_ {A = ℕ} 0 1 = cc in absurd (omega arith)
   block-way r a s′ c′ ho Z (d ∷ b) (suc n) x y e i k f s c g = block-way r a s′ c′ ho Z b n (x + 1) y e (omega arith) (omega arith)
       (drop-next (codew E m) _ _ x f) s c g
@@ -153,51 +155,51 @@ module _ (E : Setting) (W : Machine) (t : ℕ) (h : t < length (W .threads)) (aw
       go : (u : Turn) → turn a d s c ≡ u → (elim u as (λ u. Ran) [ Turn.went n s″ m″ ↦ exec a n b s″ m″ | Turn.halts ↦ Ran.stopped ]) ≡ Ran.reached s′ c′ →
           ((n x y e : ℕ) → y ≡ x + n → e ≡ x + length b → drop x (codew E m) ≡ map Instr.Test b ++ Z → (s c : List ℤ) →
           exec a n b s c ≡ Ran.reached s′ c′ →
-          Way wp (at-thread W t (thr Status.ready m y r gs) a s c ho) (at-thread W t (thr Status.ready m e r gs) a s′ c′ ho) []) →
-          Way wp (at-thread W t (thr Status.ready m y r gs) a s c ho) (at-thread W t (thr Status.ready m e r gs) a s′ c′ ho) []
+          Way wp (at-thread W t (thr Status.Ready m y r gs) a s c ho) (at-thread W t (thr Status.Ready m e r gs) a s′ c′ ho) []) →
+          Way wp (at-thread W t (thr Status.Ready m y r gs) a s c ho) (at-thread W t (thr Status.Ready m e r gs) a s′ c′ ho) []
       go Turn.halts q g ih = let z : _≡_ {A = ℕ} 0 1 = cc in absurd (omega arith)
       go (Turn.went n s″ c″) q g ih = then wp
           (way-instr y r (Instr.Test d) _ (let yx : y ≡ x = omega arith in ap (λ n. drop n (codew E m)) yx ∙ f) a s c ho
-          (thr Status.ready m (y + 1 + n) r gs) a s″ c″ ho Outcome.Moved
-          (ap (test-step (at-thread W t (thr Status.ready m y r gs) a s c ho) t (thr Status.ready m y r gs)) q))
+          (thr Status.Ready m (y + 1 + n) r gs) a s″ c″ ho Outcome.Moved
+          (ap (test-step (at-thread W t (thr Status.Ready m y r gs) a s c ho) t (thr Status.Ready m y r gs)) q))
           (ih n (x + 1) (y + 1 + n) e (omega arith) (omega arith) (drop-next (codew E m) _ _ x f) s″ c″ g)
 
   seam : (b : List Test) (Z : List Instr) (x : ℕ) → drop x (codew E m) ≡ map Instr.Test b ++ Z → drop (x + length b) (codew E m) ≡ Z
   seam b Z x f = drop-more (codew E m) _ x (length b) f ∙ ap (λ n. drop n (map Instr.Test b ++ Z)) (sym (length-map b Instr.Test)) ∙ drop-append-seam
       (map Instr.Test b) Z
 
-  call-way : {j x k y : ℕ} {cs : List Own} (r s′ c′ : List ℤ) → SiteAt E m j x k y cs → thread W t ≡ thr Status.ready m x r gs → W .holder ≡ None →
-      exec (take 4 r ++ drop 4 (W .args)) 0 (blk E k 0) (W .cells) (W .scratch) ≡ Ran.reached s′ c′ →
-      Way wp W (at-thread W t (thr Status.awaiting m (x + 1 + length (blk E k 0)) r gs) (take 4 r ++ drop 4 (W .args)) s′ c′ (Some t))
+  call-way : {j x k y : ℕ} {cs : List Own} (r s′ c′ : List ℤ) → SiteAt E m j x k y cs → thread W t ≡ thr Status.Ready m x r gs → W .holder ≡ None →
+      exec (take 4 r ++ drop 4 (W .args)) 0 (blk E k Moment.Before) (W .cells) (W .scratch) ≡ Ran.reached s′ c′ →
+      Way wp W (at-thread W t (thr Status.Awaiting m (x + 1 + length (blk E k Moment.Before)) r gs) (take 4 r ++ drop 4 (W .args)) s′ c′ (Some t))
       (Seen.call t k (take 4 r) ∷ [])
   call-way {j} {x} {k} {y} {cs} r s′ c′ s ev n ex =
-      subst (λ M. Way wp M (at-thread W t (thr Status.awaiting m (x + 1 + length (blk E k 0)) r gs) (take 4 r ++ drop 4 (W .args)) s′ c′ (Some t))
+      subst (λ M. Way wp M (at-thread W t (thr Status.Awaiting m (x + 1 + length (blk E k Moment.Before)) r gs) (take 4 r ++ drop 4 (W .args)) s′ c′ (Some t))
       (Seen.call t k (take 4 r) ∷ []))
-      (ap (at-thread W t (thr Status.ready m x r gs) (W .args) (W .cells) (W .scratch)) (sym n) ∙ unmoved W t (thr Status.ready m x r gs) ev)
-      (then wp (way-instr x r (Instr.Lock k) _ (site-code E s) (W .args) (W .cells) (W .scratch) None (thr Status.ready m (x + 1) r gs)
+      (ap (at-thread W t (thr Status.Ready m x r gs) (W .args) (W .cells) (W .scratch)) (sym n) ∙ unmoved W t (thr Status.Ready m x r gs) ev)
+      (then wp (way-instr x r (Instr.Lock k) _ (site-code E s) (W .args) (W .cells) (W .scratch) None (thr Status.Ready m (x + 1) r gs)
       (take 4 r ++ drop 4 (W .args)) (W .cells) (W .scratch) (Some t) Outcome.Moved refl)
-      (then wp (block-way r (take 4 r ++ drop 4 (W .args)) s′ c′ (Some t) (from-host E m x k y cs) (blk E k 0) 0 (x + 1) (x + 1)
-      (x + 1 + length (blk E k 0)) (omega arith) refl f (W .cells) (W .scratch) ex)
-      (way-instr (x + 1 + length (blk E k 0)) r _ _ (seam (blk E k 0) (from-host E m x k y cs) (x + 1) f) (take 4 r ++ drop 4 (W .args)) s′ c′
-      (Some t) (thr Status.awaiting m (x + 1 + length (blk E k 0)) r gs) (take 4 r ++ drop 4 (W .args)) s′ c′ (Some t) (Outcome.Called k (take 4 r)) refl)))
+      (then wp (block-way r (take 4 r ++ drop 4 (W .args)) s′ c′ (Some t) (from-host E m x k y cs) (blk E k Moment.Before) 0 (x + 1) (x + 1)
+      (x + 1 + length (blk E k Moment.Before)) (omega arith) refl f (W .cells) (W .scratch) ex)
+      (way-instr (x + 1 + length (blk E k Moment.Before)) r _ _ (seam (blk E k Moment.Before) (from-host E m x k y cs) (x + 1) f) (take 4 r ++ drop 4 (W .args)) s′ c′
+      (Some t) (thr Status.Awaiting m (x + 1 + length (blk E k Moment.Before)) r gs) (take 4 r ++ drop 4 (W .args)) s′ c′ (Some t) (Outcome.Called k (take 4 r)) refl)))
     where
-      f : drop (x + 1) (codew E m) ≡ map Instr.Test (blk E k 0) ++ from-host E m x k y cs
+      f : drop (x + 1) (codew E m) ≡ map Instr.Test (blk E k Moment.Before) ++ from-host E m x k y cs
       f = drop-next (codew E m) _ (Instr.Lock k) x (site-code E s)
 
   pass-way : (x y : ℕ) (i : Instr) (is : List Instr) (r a s c : List ℤ) (ho : Option ℕ) → drop x (codew E m) ≡ i ∷ is → Pass i (x + 1) y →
-      Way wp (at-thread W t (thr Status.ready m x r gs) a s c ho) (at-thread W t (thr Status.ready m y r gs) a s c ho) []
+      Way wp (at-thread W t (thr Status.Ready m x r gs) a s c ho) (at-thread W t (thr Status.Ready m y r gs) a s c ho) []
   pass-way x y i is r a s c ho f (Pass.skip {n} e) = subst
-      (λ n. Way wp (at-thread W t (thr Status.ready m x r gs) a s c ho) (at-thread W t (thr Status.ready m n r gs) a s c ho) []) (sym e)
-      (way-instr x r _ is f a s c ho (thr Status.ready m (x + 1 + n) r gs) a s c ho Outcome.Moved refl)
-  pass-way x y i is r a s c ho f Pass.jump = way-instr x r _ is f a s c ho (thr Status.ready m y r gs) a s c ho Outcome.Moved refl
+      (λ n. Way wp (at-thread W t (thr Status.Ready m x r gs) a s c ho) (at-thread W t (thr Status.Ready m n r gs) a s c ho) []) (sym e)
+      (way-instr x r _ is f a s c ho (thr Status.Ready m (x + 1 + n) r gs) a s c ho Outcome.Moved refl)
+  pass-way x y i is r a s c ho f Pass.jump = way-instr x r _ is f a s c ho (thr Status.Ready m y r gs) a s c ho Outcome.Moved refl
 
   leg-way : (x y : ℕ) (i : Instr) (is : List Instr) (b : List Test) (r a s c s′ c′ : List ℤ) →
       drop x (codew E m) ≡ map Instr.Test b ++ (Instr.Unlock ∷ (i ∷ is)) → Pass i (x + length b + 2) y → exec a 0 b s c ≡ Ran.reached s′ c′ →
-      Way wp (at-thread W t (thr Status.ready m x r gs) a s c (Some t)) (at-thread W t (thr Status.ready m y r gs) a s′ c′ None) []
+      Way wp (at-thread W t (thr Status.Ready m x r gs) a s c (Some t)) (at-thread W t (thr Status.Ready m y r gs) a s′ c′ None) []
   leg-way x y i is b r a s c s′ c′ f k ex =
       then wp (block-way r a s′ c′ (Some t) (Instr.Unlock ∷ (i ∷ is)) b 0 x x (x + length b) (omega arith) refl f s c ex)
-      (then wp (way-instr (x + length b) r Instr.Unlock (i ∷ is) g a s′ c′ (Some t) (thr Status.ready m (x + length b + 1) r gs) a s′ c′ None Outcome.Moved
-      (ap (λ h. unlock-step h (at-thread W t (thr Status.ready m (x + length b) r gs) a s′ c′ (Some t)) t (thr Status.ready m (x + length b) r gs))
+      (then wp (way-instr (x + length b) r Instr.Unlock (i ∷ is) g a s′ c′ (Some t) (thr Status.Ready m (x + length b + 1) r gs) a s′ c′ None Outcome.Moved
+      (ap (λ h. unlock-step h (at-thread W t (thr Status.Ready m (x + length b) r gs) a s′ c′ (Some t)) t (thr Status.Ready m (x + length b) r gs))
       (eq-eqb t t refl)))
       (pass-way (x + length b + 1) y i is r a s′ c′ None (drop-next (codew E m) _ Instr.Unlock (x + length b) g)
       (let ax : x + length b + 2 ≡ x + length b + 1 + 1 = omega arith in subst (λ n. Pass i n y) ax k)))
@@ -228,10 +230,10 @@ module _ (E : Setting) where
     stays ta al = record { ends = W; way = way-none (woven-applet A B p); next = c; tied = T; takes = ta; alone = al }
 
     module _ (t : ℕ) (h : t < length (W .threads)) where
-      woven-steps : (m x : ℕ) (r : List ℤ) (gs : List Frame) (i : Instr) → thread W t ≡ thr Status.ready m x r gs →
-          getD (drop x (codew E m)) 0 (Instr.Own Own.End) ≡ i → step (woven-applet A B p) W t ≡ run-instr i W t (thr Status.ready m x r gs)
+      woven-steps : (m x : ℕ) (r : List ℤ) (gs : List Frame) (i : Instr) → thread W t ≡ thr Status.Ready m x r gs →
+          getD (drop x (codew E m)) 0 (Instr.Own Own.End) ≡ i → step (woven-applet A B p) W t ≡ run-instr i W t (thr Status.Ready m x r gs)
       woven-steps m x r gs i e f = step-in (woven-applet A B p) W t h (T .awake) ∙ ap (λ u. by-status (woven-applet A B p) W t u (u .status)) e
-          ∙ ap (λ i. run-instr i W t (thr Status.ready m x r gs)) (fetch-woven E m x r ∙ f)
+          ∙ ap (λ i. run-instr i W t (thr Status.Ready m x r gs)) (fetch-woven E m x r ∙ f)
 
       own-echo : (W .holder ≡ Some t → ⊥) → (l k : Local) → Alike E false (o t) l k → step (woven-applet A B p) W t ≡ own-step W t k →
           Echoes (after P (own-step P t l)) (seen-of t (l .says))
@@ -246,8 +248,8 @@ module _ (E : Setting) where
           })
 
       call-echo : {m j x k y : ℕ} {fs gs : List Frame} {cs : List Own} (r : List ℤ) → length r ≡ 8 → Callers E fs gs → SiteAt E m j x k y cs →
-          thread P t ≡ thr Status.ready m j r fs → thread W t ≡ thr Status.ready m x r gs →
-          Echoes (after P (own-step P t (local (Own.Host k y) (thr Status.ready m j r fs) (W .shared)))) (Seen.call t k (take 4 r) ∷ [])
+          thread P t ≡ thr Status.Ready m j r fs → thread W t ≡ thr Status.Ready m x r gs →
+          Echoes (after P (own-step P t (local (Own.Host k y) (thr Status.Ready m j r fs) (W .shared)))) (Seen.call t k (take 4 r) ∷ [])
       call-echo {m} {j} {x} {k} {y} {fs} {gs} {cs} r l cl s eu ev ta al =
           let fr = free-none (W .holder) (Alone (A .watched) (Some t) rest)
           (subst (λ b. elim b as (λ b. Type 0) [
@@ -255,8 +257,8 @@ module _ (E : Setting) where
             | false ↦ Alone (A .watched)
                 (W .holder) rest
           ]) (s .watch) al) in
-          let tk = takes-some A (A .step (event A 0 k (take 4 r) (pos 0)) c) (λ d. Takes A d (events (A .watched) (opened t k (take 4 r) o) rest))
-          (subst (λ b. Takes A c (cond b (event A 0 k (take 4 r) (pos 0) ∷ []) [] ++ events (A .watched) (opened t k (take 4 r) o) rest)) (s .watch) ta) in
+          let tk = takes-some A (A .step (event A Moment.Before k (take 4 r) (pos 0)) c) (λ d. Takes A d (events (A .watched) (opened t k (take 4 r) o) rest))
+          (subst (λ b. Takes A c (cond b (event A Moment.Before k (take 4 r) (pos 0) ∷ []) [] ++ events (A .watched) (opened t k (take 4 r) o) rest)) (s .watch) ta) in
           go (fr .0) (fr .1) (tk .0) (tk .1) (tk .2) (owes-some A _ (tk .0) (ow (fr .0) (tk .0) (tk .1)))
         where
           last : ℤ
@@ -268,26 +270,26 @@ module _ (E : Setting) where
           ea : a ≡ take 4 r ++ (last ∷ [])
           ea = ap (λ y. take 4 r ++ y) (last-of (W .args) (T .args))
 
-          ow : W .holder ≡ None → (d : List ℤ) → A .step (event A 0 k (take 4 r) (pos 0)) c ≡ Some d →
-              Owes A (exec a 0 (blk E k 0) (W .cells) (W .scratch)) (Some d)
+          ow : W .holder ≡ None → (d : List ℤ) → A .step (event A Moment.Before k (take 4 r) (pos 0)) c ≡ Some d →
+              Owes A (exec a 0 (blk E k Moment.Before) (W .cells) (W .scratch)) (Some d)
           ow n d got = let ce : c ≡ take (A .width) (W .cells) = some-same _ _ (subst (Lock E false (Some c) o P W) n (T .lock)) refl in
-              subst₂ (λ a q. Owes A (exec a 0 (blk E k 0) (W .cells) (W .scratch)) q) (sym ea)
+              subst₂ (λ a q. Owes A (exec a 0 (blk E k Moment.Before) (W .cells) (W .scratch)) q) (sym ea)
               (blind E k (take 4 r) last (pos 0) (W .cells) (length-take-le 4 r (omega arith)) (T .cells) ∙ ap
-              (A .step (event A 0 k (take 4 r) (pos 0))) (sym ce) ∙ got)
-              (owed E k 0 (omega arith) (take 4 r) last (W .cells) (W .scratch) (length-take-le 4 r (omega arith)) (T .cells) (T .scratch))
+              (A .step (event A Moment.Before k (take 4 r) (pos 0))) (sym ce) ∙ got)
+              (owed E k Moment.Before (take 4 r) last (W .cells) (W .scratch) (length-take-le 4 r (omega arith)) (T .cells) (T .scratch))
 
-          go : W .holder ≡ None → Alone (A .watched) (Some t) rest → (d : List ℤ) → A .step (event A 0 k (take 4 r) (pos 0)) c ≡ Some d →
+          go : W .holder ≡ None → Alone (A .watched) (Some t) rest → (d : List ℤ) → A .step (event A Moment.Before k (take 4 r) (pos 0)) c ≡ Some d →
               Takes A d (events (A .watched) (opened t k (take 4 r) o) rest) →
-              (s′ c′ : List ℤ) × (exec a 0 (blk E k 0) (W .cells) (W .scratch) ≡ Ran.reached s′ c′) × (take (A .width) s′ ≡ d) →
-              Echo W o (after P (own-step P t (local (Own.Host k y) (thr Status.ready m j r fs) (W .shared)))) (Seen.call t k (take 4 r) ∷ []) rest
+              (s′ c′ : List ℤ) × (exec a 0 (blk E k Moment.Before) (W .cells) (W .scratch) ≡ Ran.reached s′ c′) × (take (A .width) s′ ≡ d) →
+              Echo W o (after P (own-step P t (local (Own.Host k y) (thr Status.Ready m j r fs) (W .shared)))) (Seen.call t k (take 4 r) ∷ []) rest
           go n al d got ta (s′, c′, ex, tk) =
               let kept : KeptBy 32 8 (Ran.reached s′ c′) = subst (KeptBy 32 8) ex
-              (exec-keeps a (blk E k 0) 0 (W .cells) (W .scratch) 32 8 (T .cells) (T .scratch)) in
+              (exec-keeps a (blk E k Moment.Before) 0 (W .cells) (W .scratch) 32 8 (T .cells) (T .scratch)) in
               record {
-                ends = at-thread W t (thr Status.awaiting m (x + 1 + length (blk E k 0)) r gs) a s′ c′ (Some t);
+                ends = at-thread W t (thr Status.Awaiting m (x + 1 + length (blk E k Moment.Before)) r gs) a s′ c′ (Some t);
                 way = call-way E W t h (T .awake) m gs r s′ c′ s ev n ex;
                 next = d;
-                tied = tied-set E false T t h (thr Status.awaiting m j r fs) (thr Status.awaiting m (x + 1 + length (blk E k 0)) r gs) (W .shared)
+                tied = tied-set E false T t h (thr Status.Awaiting m j r fs) (thr Status.Awaiting m (x + 1 + length (blk E k Moment.Before)) r gs) (W .shared)
                     (W .shared) a s′ c′ refl (simp (length-append, length-take, length-drop) (omega (arith, T .args))) (kept .0) (kept .1) (Some t)
                     (Some d) (opened t k (take 4 r) o)
                     (λ i nz nh. subst (λ y. Free E false y (thread P i) (thread W i)) (sym (opens-there o t i (Outcome.Called k (take 4 r)) nz))
@@ -295,7 +297,7 @@ module _ (E : Setting) where
                     (inl (
                       refl,
                       Held.wait last l s cl
-                          (seam E W t h (T .awake) m gs (blk E k 0) (from-host E m x k y cs) (x + 1)
+                          (seam E W t h (T .awake) m gs (blk E k Moment.Before) (from-host E m x k y cs) (x + 1)
                           (drop-next (codew E m) _ (Instr.Lock k) x (site-code E s))) refl ea (ap Some (sym tk)) (opens-here o t (Outcome.Called k (take 4 r))),
                     ))
                     (P .cells) (P .scratch) (P .args) (P .holder);
@@ -304,16 +306,16 @@ module _ (E : Setting) where
               }
 
       ready-echo : (W .holder ≡ Some t → ⊥) → (m j x : ℕ) (r : List ℤ) (fs gs : List Frame) → length r ≡ 8 → Callers E fs gs →
-          thread P t ≡ thr Status.ready m j r fs → thread W t ≡ thr Status.ready m x r gs → Ready E false (o t) m j x r fs gs →
-          Echoes (after P (run-instr (fetch (plain-applet p) (record { method = m; index = j; regs = r })) P t (thr Status.ready m j r fs)))
-          (shown t (run-instr (fetch (plain-applet p) (record { method = m; index = j; regs = r })) P t (thr Status.ready m j r fs)))
+          thread P t ≡ thr Status.Ready m j r fs → thread W t ≡ thr Status.Ready m x r gs → Ready E false (o t) m j x r fs gs →
+          Echoes (after P (run-instr (fetch (plain-applet p) (record { method = m; index = j; regs = r })) P t (thr Status.Ready m j r fs)))
+          (shown t (run-instr (fetch (plain-applet p) (record { method = m; index = j; regs = r })) P t (thr Status.Ready m j r fs)))
       ready-echo n m j x r fs gs l cl eu ev (Ready.own d d′ a b k) = subst₂
-          (λ i g. Echoes (after P (run-instr i (with-shared P g) t (thr Status.ready m j r fs)))
-          (shown t (run-instr i (with-shared P g) t (thr Status.ready m j r fs))))
+          (λ i g. Echoes (after P (run-instr i (with-shared P g) t (thr Status.Ready m j r fs)))
+          (shown t (run-instr i (with-shared P g) t (thr Status.Ready m j r fs))))
           (sym (fetch-plain E m j r ∙ ap Instr.Own a)) (sym (T .shared)) (own-echo n _ _ (k (W .shared)) (woven-steps m x r gs (Instr.Own d′) ev b))
       ready-echo n m j x r fs gs l cl eu ev (Ready.watched k y cs s) = subst₂
-          (λ i g. Echoes (after P (run-instr i (with-shared P g) t (thr Status.ready m j r fs)))
-          (shown t (run-instr i (with-shared P g) t (thr Status.ready m j r fs))))
+          (λ i g. Echoes (after P (run-instr i (with-shared P g) t (thr Status.Ready m j r fs)))
+          (shown t (run-instr i (with-shared P g) t (thr Status.Ready m j r fs))))
           (sym (fetch-plain E m j r ∙ ap (λ c. Instr.Own (getD c 0 Own.End)) (s .plain))) (sym (T .shared)) (call-echo r l cl s eu ev)
 
       free-echo : (W .holder ≡ Some t → ⊥) → (u v : Thread) → thread P t ≡ u → thread W t ≡ v → Free E false (o t) u v →
@@ -340,43 +342,43 @@ module _ (E : Setting) where
       free-reply n u v b a ev (Free.ready l at cl) = stays
       free-reply n u v b a ev Free.ended = stays
       free-reply n u v b a ev (Free.waiting {m} {j} {x} {k} {n = y} {r} {fs} {gs} {cs} l at cl d wk xs ok) = λ ta al. record {
-        ends = replied-to E false (woven-applet A B p) W t (thr Status.awaiting m x r gs) b a;
-        way = way-answer (woven-applet A B p) t b a Outcome.Moved (woven-answers (thr Status.awaiting m x r gs) b a ev);
+        ends = replied-to E false (woven-applet A B p) W t (thr Status.Awaiting m x r gs) b a;
+        way = way-answer (woven-applet A B p) t b a Outcome.Moved (woven-answers (thr Status.Awaiting m x r gs) b a ev);
         next = c;
         tied = free-replied E false T t h n r l at cl d wk b a;
-        takes = subst (λ i. Takes A c (cond i (event A (moment-of b) k xs a ∷ []) [] ++ events (A .watched) (now-open t None o) rest)) wk
+        takes = subst (λ i. Takes A c (cond i (event A (answer-moment b) k xs a ∷ []) [] ++ events (A .watched) (now-open t None o) rest)) wk
             (subst (λ i. Takes A c (reply-event (A .watched) i b a ++ events (A .watched) (now-open t None o) rest)) ok ta);
         alone = subst (λ q. Alone (A .watched) q rest) (closed-other (W .holder) t n) al;
       }
       free-reply n u v b a ev (Free.passing l at cl d k z) = absurd (false≢true z)
 
       reply-leg : {m j x i k y : ℕ} {cs : List Own} (gs : List Frame) (r xs s′ c′ : List ℤ) → SiteAt E m j i k y cs →
-          drop x (codew E m) ≡ from-host E m i k y cs → x ≡ i + 1 + length (blk E k 0) →
-          (b : Bool) (tp tw : ℕ) → tp ≡ y → tw ≡ i + (length (blk E k 0) + (length (blk E k 1) + 4)) →
-          exec xs 0 (blk E k (moment-of b)) (W .cells) (W .scratch) ≡ Ran.reached s′ c′ →
+          drop x (codew E m) ≡ from-host E m i k y cs → x ≡ i + 1 + length (blk E k Moment.Before) →
+          (b : Bool) (tp tw : ℕ) → tp ≡ y → tw ≡ i + (length (blk E k Moment.Before) + (length (blk E k Moment.After) + 4)) →
+          exec xs 0 (blk E k (answer-moment b)) (W .cells) (W .scratch) ≡ Ran.reached s′ c′ →
           (e : ℕ) × At E m (cond b tp (j + 1)) e × Way (woven-applet A B p)
-          (at-thread W t (thr Status.ready m (cond b tw (x + 1)) r gs) xs (W .cells) (W .scratch) (Some t))
-          (at-thread W t (thr Status.ready m e r gs) xs s′ c′ None) []
+          (at-thread W t (thr Status.Ready m (cond b tw (x + 1)) r gs) xs (W .cells) (W .scratch) (Some t))
+          (at-thread W t (thr Status.Ready m e r gs) xs s′ c′ None) []
       reply-leg {m} {j} {x} {i} {k} {y} {cs} gs r xs s′ c′ s f ix true tp tw e g ex = (
         to E m y,
         rw e (at-target E false m y),
-        rw g (leg-way E W t h (T .awake) m gs _ (to E m y) _ _ (blk E k 2) r xs (W .cells) (W .scratch) s′ c′ (site-raised E s x f ix) Pass.jump ex),
+        rw g (leg-way E W t h (T .awake) m gs _ (to E m y) _ _ (blk E k Moment.Raised) r xs (W .cells) (W .scratch) s′ c′ (site-raised E s x f ix) Pass.jump ex),
       )
       reply-leg {m} {j} {x} {i} {k} {y} {cs} gs r xs s′ c′ s f ix false tp tw e g ex = (
         _,
         site-next E s x f ix,
-        leg-way E W t h (T .awake) m gs (x + 1) _ _ _ (blk E k 1) r xs (W .cells) (W .scratch) s′ c′
+        leg-way E W t h (T .awake) m gs (x + 1) _ _ _ (blk E k Moment.After) r xs (W .cells) (W .scratch) s′ c′
             (site-after E s x f ix) (Pass.skip refl) ex,
       )
 
       wait-reply : W .holder ≡ Some t → {m j x i k y : ℕ} {fs gs : List Frame} {cs : List Own} (r : List ℤ) (b : Bool) (a last : ℤ) → length r ≡ 8 →
-          SiteAt E m j i k y cs → Callers E fs gs → drop x (codew E m) ≡ from-host E m i k y cs → x ≡ i + 1 + length (blk E k 0) →
+          SiteAt E m j i k y cs → Callers E fs gs → drop x (codew E m) ≡ from-host E m i k y cs → x ≡ i + 1 + length (blk E k Moment.Before) →
           W .args ≡ take 4 r ++ (last ∷ []) → c ≡ take (A .width) (W .cells) → o t ≡ Some (record { number = k; args = take 4 r }) →
-          thread W t ≡ thr Status.awaiting m x r gs →
-          Echoes (replied-to E false (plain-applet p) P t (thr Status.awaiting m j r fs) b a) (Seen.reply t b a ∷ [])
+          thread W t ≡ thr Status.Awaiting m x r gs →
+          Echoes (replied-to E false (plain-applet p) P t (thr Status.Awaiting m j r fs) b a) (Seen.reply t b a ∷ [])
       wait-reply n {m} {j} {x} {i} {k} {y} {fs} {gs} {cs} r b a last l s cl f ix ea ce eo ev ta al =
-          let tk = takes-some A (A .step (event A (moment-of b) k (take 4 r) a) c) (λ d. Takes A d (events (A .watched) (now-open t None o) rest))
-          (subst (λ i. Takes A c (cond i (event A (moment-of b) k (take 4 r) a ∷ []) [] ++ events (A .watched) (now-open t None o) rest)) (s .watch)
+          let tk = takes-some A (A .step (event A (answer-moment b) k (take 4 r) a) c) (λ d. Takes A d (events (A .watched) (now-open t None o) rest))
+          (subst (λ i. Takes A c (cond i (event A (answer-moment b) k (take 4 r) a ∷ []) [] ++ events (A .watched) (now-open t None o) rest)) (s .watch)
           (subst (λ i. Takes A c (reply-event (A .watched) i b a ++ events (A .watched) (now-open t None o) rest)) eo ta)) in
           go (tk .0) (tk .2) (owes-some A _ (tk .0) (ow (tk .0) (tk .1)))
         where
@@ -386,30 +388,30 @@ module _ (E : Setting) where
           ex : xs ≡ take 4 r ++ (a ∷ [])
           ex = ap (λ xs. set xs 4 a) ea ∙ set-at (take 4 r) last [] a 4 (length-take-le 4 r (omega arith))
 
-          ow : (d : List ℤ) → A .step (event A (moment-of b) k (take 4 r) a) c ≡ Some d →
-              Owes A (exec xs 0 (blk E k (moment-of b)) (W .cells) (W .scratch)) (Some d)
-          ow d got = subst₂ (λ a q. Owes A (exec a 0 (blk E k (moment-of b)) (W .cells) (W .scratch)) q) (sym ex)
-              (ap (A .step (event A (moment-of b) k (take 4 r) a)) (sym ce) ∙ got)
-              (owed E k (moment-of b) (moment-below b) (take 4 r) a (W .cells) (W .scratch) (length-take-le 4 r (omega arith)) (T .cells) (T .scratch))
+          ow : (d : List ℤ) → A .step (event A (answer-moment b) k (take 4 r) a) c ≡ Some d →
+              Owes A (exec xs 0 (blk E k (answer-moment b)) (W .cells) (W .scratch)) (Some d)
+          ow d got = subst₂ (λ a q. Owes A (exec a 0 (blk E k (answer-moment b)) (W .cells) (W .scratch)) q) (sym ex)
+              (ap (A .step (event A (answer-moment b) k (take 4 r) a)) (sym ce) ∙ got)
+              (owed E k (answer-moment b) (take 4 r) a (W .cells) (W .scratch) (length-take-le 4 r (omega arith)) (T .cells) (T .scratch))
 
           go : (d : List ℤ) → Takes A d (events (A .watched) (now-open t None o) rest) →
-              (s′ c′ : List ℤ) × (exec xs 0 (blk E k (moment-of b)) (W .cells) (W .scratch) ≡ Ran.reached s′ c′) × (take (A .width) s′ ≡ d) →
-              Echo W o (replied-to E false (plain-applet p) P t (thr Status.awaiting m j r fs) b a) (Seen.reply t b a ∷ []) rest
+              (s′ c′ : List ℤ) × (exec xs 0 (blk E k (answer-moment b)) (W .cells) (W .scratch) ≡ Ran.reached s′ c′) × (take (A .width) s′ ≡ d) →
+              Echo W o (replied-to E false (plain-applet p) P t (thr Status.Awaiting m j r fs) b a) (Seen.reply t b a ∷ []) rest
           go d ta (s′, c′, re, tk) =
               let kept : KeptBy 32 8 (Ran.reached s′ c′) = subst (KeptBy 32 8) re
-              (exec-keeps xs (blk E k (moment-of b)) 0 (W .cells) (W .scratch) 32 8 (T .cells) (T .scratch)) in
+              (exec-keeps xs (blk E k (answer-moment b)) 0 (W .cells) (W .scratch) 32 8 (T .cells) (T .scratch)) in
               let lg = reply-leg gs (set r 0 a) xs s′ c′ s f ix b
               (raised-target (fetch (plain-applet p) (record { method = m; index = j; regs = r })))
               (raised-target (fetch (woven-applet A B p) (record { method = m; index = x; regs = r }))) (target-plain E false m j r (s .plain))
               (target-woven E false m x r f) re in
               record {
-                ends = at-thread W t (thr Status.ready m (lg .0) (set r 0 a) gs) xs s′ c′ None;
-                way = then (woven-applet A B p) (way-answer (woven-applet A B p) t b a Outcome.Moved (woven-answers (thr Status.awaiting m x r gs) b a ev
-                    ∙ ap₂ (λ z ho. Stepped.done (at-thread W t (resume (woven-applet A B p) (thr Status.awaiting m x r gs) b a) (cond z xs (W .args))
+                ends = at-thread W t (thr Status.Ready m (lg .0) (set r 0 a) gs) xs s′ c′ None;
+                way = then (woven-applet A B p) (way-answer (woven-applet A B p) t b a Outcome.Moved (woven-answers (thr Status.Awaiting m x r gs) b a ev
+                    ∙ ap₂ (λ z ho. Stepped.done (at-thread W t (resume (woven-applet A B p) (thr Status.Awaiting m x r gs) b a) (cond z xs (W .args))
                     (W .cells) (W .scratch) ho) Outcome.Moved) (holds-it (W .holder) t n) n)) (lg .2);
                 next = d;
-                tied = tied-set E false T t h (resume (plain-applet p) (thr Status.awaiting m j r fs) b a)
-                    (thr Status.ready m (lg .0) (set r 0 a) gs) (P .shared) (W .shared) xs s′ c′ (T .shared) (length-set (W .args) 4 a ∙ T .args)
+                tied = tied-set E false T t h (resume (plain-applet p) (thr Status.Awaiting m j r fs) b a)
+                    (thr Status.Ready m (lg .0) (set r 0 a) gs) (P .shared) (W .shared) xs s′ c′ (T .shared) (length-set (W .args) 4 a ∙ T .args)
                     (kept .0) (kept .1) None (Some d) (now-open t None o)
                     (λ i nz nh. subst (λ y. Free E false y (thread P i) (thread W i)) (sym (shut-there o t i nz))
                     (T .free i (λ e. nz (some-same t i n e)))) (λ nh. Free.ready (length-set r 0 a ∙ l) (lg .1) cl) (ap Some (sym tk))

@@ -1,6 +1,6 @@
 -- When weave writes: exactly of the files that can be woven.
 use mathlib.Core.Path.{_≡_, refl, sym, ap, ap₂, _∙_}
-use mathlib.Core.Bool.{Bool, true, false}
+use mathlib.Core.Bool.{Bool, true, false, _&&_}
 use mathlib.Core.Logic.{⊎-elim}
 use mathlib.Core.List.{List, [], _∷_, map}
 use Prim.Native.Nat.{ℕ, zero, suc, _+_, _<_, _≤_}
@@ -15,6 +15,8 @@ use Rattle.model.specs.declared.Own.{Own}
 use Rattle.model.specs.declared.Instr.{Instr}
 use Rattle.model.specs.declared.Refusal.{Refusal}
 use Rattle.model.specs.declared.Refusal.the-variants.{BlockTooLong}
+use Rattle.model.specs.declared.Moment.{Moment}
+use Rattle.model.specs.Moments.{each-moment}
 use Rattle.model.specs.Policy.{Automaton, Blocks}
 use Rattle.model.specs.Machine.{Applet}
 use Rattle.model.specs.Weave.{Plain, plain-applet, woven-applet}
@@ -98,16 +100,24 @@ all-below-from : (n : ℕ) (p : ℕ → Bool) → ((k : ℕ) → k < n → p k �
 all-below-from zero p h = refl
 all-below-from (suc n) p h = and-from (p n) (all-below n p) (h n (omega arith)) (all-below-from n p (λ k l. h k (omega arith)))
 
+each-moment-true : (p : Moment → Bool) (t : Moment) → each-moment p ≡ true → p t ≡ true
+each-moment-true p Moment.Before h = and-parts (p Moment.Before) (p Moment.After) (and-parts (p Moment.Before && p Moment.After) (p Moment.Raised) h .0) .0
+each-moment-true p Moment.After h = and-parts (p Moment.Before) (p Moment.After) (and-parts (p Moment.Before && p Moment.After) (p Moment.Raised) h .0) .1
+each-moment-true p Moment.Raised h = and-parts (p Moment.Before && p Moment.After) (p Moment.Raised) h .1
+
+each-moment-from : (p : Moment → Bool) → ((t : Moment) → p t ≡ true) → each-moment p ≡ true
+each-moment-from p h = rw (h Moment.Before, h Moment.After, h Moment.Raised)
+
 module _ (A : Automaton) (B : Blocks) where
   -- the block of call k at moment t is within the limit
-  abbrev block-fits : ℕ → ℕ → Bool
+  abbrev block-fits : ℕ → Moment → Bool
   block-fits k t = leb (length (B k t 0)) 1000
 
   pub limits-from : Limited A B → policy-limits A B ≡ Ok tt
   limits-from h =
       need-ok (leb (A .width) 32) _ _ (le-leb _ _ (h .cells))
-      ∙ ap (λ b. need b BlockTooLong) (all-below-from 64 (λ k. all-below 3 (block-fits k))
-      (λ k lk. all-below-from 3 (block-fits k) (λ t lt. le-leb _ _ (h .blocks k t lk lt))))
+      ∙ ap (λ b. need b BlockTooLong) (all-below-from 64 (λ k. each-moment (block-fits k))
+      (λ k lk. each-moment-from (block-fits k) (λ t. le-leb _ _ (h .blocks k t lk))))
 
   limited : (u : Unit {0}) → policy-limits A B ≡ Ok u → Limited A B
   limited u e =
@@ -115,8 +125,7 @@ module _ (A : Automaton) (B : Blocks) where
       let b = need-true _ BlockTooLong u e in
       record {
         cells = leb-true _ _ w;
-        blocks = λ k t lk lt. leb-true _ _
-            (all-below-true 3 (block-fits k) t (all-below-true 64 (λ k. all-below 3 (block-fits k)) k b lk) lt);
+        blocks = λ k t lk. leb-true _ _ (each-moment-true (block-fits k) t (all-below-true 64 (λ k. each-moment (block-fits k)) k b lk));
       }
 
   pub writes : (f : List ℕ) (area : ℕ) (p : Plain) → Weavable A B f area p → weave-file A B f area ≡ Ok (woven-bytes A B p)

@@ -14,6 +14,7 @@ use Rattle.std.proofs.shelf.Elements.{all-map}
 use Rattle.std.proofs.shelf.Signed.{toZ-ofZ}
 use Rattle.std.proofs.shelf.Tests.{ltb-true, lt-ltb, and-parts, and-from}
 use Rattle.std.specs.declared.option.Option.the-variants.{Some, None}
+use Rattle.model.specs.declared.Moment.{Moment}
 use Rattle.model.specs.declared.Own.{Own}
 use Rattle.model.specs.declared.Test.{Test}
 use Rattle.model.specs.declared.Test.the-variants.{Skip, Skz, Viol, Mset, Mcell, Marg, Store, Op}
@@ -33,11 +34,12 @@ sound-append n size i (x ∷ xs) ys h k = (h .0, sound-append n size (i + 1) xs 
 
 -- ---- the tests of a block
 
-arguments-le : (t : ℕ) → arguments t ≤ 5
-arguments-le zero = omega arith
-arguments-le (suc t) = omega arith
+arguments-le : (t : Moment) → arguments t ≤ 5
+arguments-le Moment.Before = omega arith
+arguments-le Moment.After = omega arith
+arguments-le Moment.Raised = omega arith
 
-module _ (n w t : ℕ) (narrow : w ≤ 32) where
+module _ (n w : ℕ) (t : Moment) (narrow : w ≤ 32) where
   ranged-test : (r : ℕ) (c : Test) → Formed t 0 w c → reach c ≤ r → r < 65536 → Ranged n (Instr.Test c)
   unfolding table
   ranged-test r (Skip k) h e l = record { entry = _; listed = refl; x = omega arith; y = omega arith; same = refl }
@@ -113,30 +115,30 @@ module _ (n total : ℕ) (few : total ≤ 4096) where
   before : (j k : ℕ) (xs ys : List Instr) → Sound n total j xs → k ≡ j + length xs → Sound n total k ys → Sound n total j (xs ++ ys)
   before j k xs ys h e s = sound-append n total j xs ys h (subst (λ i. Sound n total i ys) e s)
 
-  module _ (watched : ℕ → Bool) (block : ℕ → ℕ → List Test)
-      (tests : (k t j : ℕ) → j + length (block k t) < total → Sound n total j (map Instr.Test (block k t))) where
+  module _ (watched : ℕ → Bool) (block : ℕ → Moment → List Test)
+      (tests : (k : ℕ) (t : Moment) (j : ℕ) → j + length (block k t) < total → Sound n total j (map Instr.Test (block k t))) where
     inner-sound : (i k : ℕ) → k < 64 → i + suc (behind block k) < total → Sound n total (i + 1) (inner block i k)
     inner-sound i k h l =
-        let b0 = map Instr.Test (block k 0) in
-        let b1 = map Instr.Test (block k 1) in
-        let b2 = map Instr.Test (block k 2) in
-        let l0 = length-map (block k 0) Instr.Test in
-        let l1 = length-map (block k 1) Instr.Test in
-        let l2 = length-map (block k 2) Instr.Test in
-        let j1 = i + 1 + length (block k 0) in
-        let j2 = j1 + 1 + length (block k 1) in
-        let j3 = j2 + 2 + length (block k 2) in
-        let host = Instr.Own (Own.Host k (i + (length (block k 0) + (length (block k 1) + 4)))) in
-        let skip = Instr.Test (Skip (length (block k 2) + 2)) in
+        let b0 = map Instr.Test (block k Moment.Before) in
+        let b1 = map Instr.Test (block k Moment.After) in
+        let b2 = map Instr.Test (block k Moment.Raised) in
+        let l0 = length-map (block k Moment.Before) Instr.Test in
+        let l1 = length-map (block k Moment.After) Instr.Test in
+        let l2 = length-map (block k Moment.Raised) Instr.Test in
+        let j1 = i + 1 + length (block k Moment.Before) in
+        let j2 = j1 + 1 + length (block k Moment.After) in
+        let j3 = j2 + 2 + length (block k Moment.Raised) in
+        let host = Instr.Own (Own.Host k (i + (length (block k Moment.Before) + (length (block k Moment.After) + 4)))) in
+        let skip = Instr.Test (Skip (length (block k Moment.Raised) + 2)) in
         let z2 : List Instr = b2 ++ (Instr.Unlock ∷ []) in
         let z3 : List Instr = Instr.Unlock ∷ skip ∷ z2 in
         let z4 : List Instr = host ∷ b1 ++ z3 in
-        before (i + 1) j1 b0 z4 (tests k 0 (i + 1) (omega arith)) (omega arith)
+        before (i + 1) j1 b0 z4 (tests k Moment.Before (i + 1) (omega arith)) (omega arith)
         (before j1 (j1 + 1) (host ∷ []) (b1 ++ z3) (host-sound j1 k _ h (omega arith) (omega arith)) refl
-        (before (j1 + 1) j2 b1 z3 (tests k 1 (j1 + 1) (omega arith)) (omega arith)
+        (before (j1 + 1) j2 b1 z3 (tests k Moment.After (j1 + 1) (omega arith)) (omega arith)
         (before j2 (j2 + 1) (Instr.Unlock ∷ []) (skip ∷ z2) (unlock-sound j2 (omega arith)) refl
-        (before (j2 + 1) (j2 + 2) (skip ∷ []) z2 (skip-sound (j2 + 1) (length (block k 2) + 2) (omega arith)) (omega arith)
-        (before (j2 + 2) j3 b2 (Instr.Unlock ∷ []) (tests k 2 (j2 + 2) (omega arith)) (omega arith)
+        (before (j2 + 1) (j2 + 2) (skip ∷ []) z2 (skip-sound (j2 + 1) (length (block k Moment.Raised) + 2) (omega arith)) (omega arith)
+        (before (j2 + 2) j3 b2 (Instr.Unlock ∷ []) (tests k Moment.Raised (j2 + 2) (omega arith)) (omega arith)
         (unlock-sound j3 (omega arith)))))))
 
     site-sound : (i k t : ℕ) → k < 64 → t < total → i + suc (behind block k) < total → Sound n total i (site block i k t)
@@ -185,7 +187,7 @@ module _ (n total : ℕ) (few : total ≤ 4096) where
 
 -- ---- sizes
 
-module _ (watched : ℕ → Bool) (block : ℕ → ℕ → List Test) where
+module _ (watched : ℕ → Bool) (block : ℕ → Moment → List Test) where
   -- how many instructions stand for plain code
   abbrev total-size : List Own → ℕ
   total-size [] = 0
@@ -208,7 +210,7 @@ module _ (watched : ℕ → Bool) (block : ℕ → ℕ → List Test) where
   total-pos [] h = h
   total-pos (c ∷ cs) h = omega arith
 
-  module _ (n total : ℕ) (few : total ≤ 4096) (tests : (k t j : ℕ) → j + length (block k t) < total → Sound n total j (map Instr.Test (block k t)))
+  module _ (n total : ℕ) (few : total ≤ 4096) (tests : (k : ℕ) (t : Moment) (j : ℕ) → j + length (block k t) < total → Sound n total j (map Instr.Test (block k t)))
       (f : ℕ → ℕ) (plain : ℕ) (inside : (t : ℕ) → t < plain → f t < total) where
     laid-sound : (i j : ℕ) (cs : List Own) → j + length cs ≡ plain → i + total-size cs ≡ total → Sound n plain j (map Instr.Own cs) →
         Sound n total i (laid watched block i (map (retarget f) cs))
@@ -234,7 +236,7 @@ all-two P Q R k (x ∷ xs) h g = (k x (h .0) (g .0), all-two P Q R k xs (h .1) (
 
 module _ (A : Automaton) (B : Blocks) (S : Offers A B) (p : Plain) (good : Valid (plain-applet p)) where
   -- the blocks from cell 0 on
-  abbrev blk : ℕ → ℕ → List Test
+  abbrev blk : ℕ → Moment → List Test
   blk k t = B k t 0
 
   -- the woven code of a method
@@ -245,7 +247,7 @@ module _ (A : Automaton) (B : Blocks) (S : Offers A B) (p : Plain) (good : Valid
   woven-size c = laid-size (A .watched) blk (start (A .watched) blk c) 0 c
 
   module _ (n : ℕ) (c : List Own) (few : length (weave c) ≤ 4096) where
-    tests-sound : (k t j : ℕ) → j + length (blk k t) < length (weave c) → Sound n (length (weave c)) j (map Instr.Test (blk k t))
+    tests-sound : (k : ℕ) (t : Moment) (j : ℕ) → j + length (blk k t) < length (weave c) → Sound n (length (weave c)) j (map Instr.Test (blk k t))
     tests-sound k t j l = block-sound n (A .width) t (S .narrow) (length (weave c)) j (blk k t) few l (rw zero-add at (S .shows .formed k t 0))
         (S .shows .enclosed k t 0)
 

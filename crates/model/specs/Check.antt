@@ -6,6 +6,7 @@ use lib.ListN.{getD}
 use Rattle.std.specs.declared.option.Option.{Option}
 use Rattle.std.specs.declared.option.Option.the-variants.{Some, None}
 use Rattle.model.specs.declared.Refusal.{Refusal}
+use Rattle.model.specs.declared.Moment.{Moment}
 use Rattle.model.specs.declared.Own.{Own}
 use Rattle.model.specs.declared.Test.{Test}
 use Rattle.model.specs.declared.Instr.{Instr}
@@ -66,7 +67,7 @@ off i [] (c ∷ cs) = cond (is-jump c) None (Some i)
 off i (e ∷ es) [] = Some i
 off i (e ∷ es) (c ∷ cs) = cond (same e c) (off (i + 1) es cs) (Some i)
 
-module _ (block : ℕ → ℕ → List Test) where
+module _ (block : ℕ → Moment → List Test) where
   -- which indices are entries; the first n instructions are behind a LOCK
   abbrev pub marks : ℕ → List Instr → List Bool
   marks n [] = []
@@ -86,7 +87,7 @@ module _ (block : ℕ → ℕ → List Test) where
   stray es i zero (Instr.Unlock ∷ cs) = stray es (i + 1) zero cs
   stray es i zero (Instr.Test c ∷ cs) = stray es (i + 1) zero cs
 
-module _ (watched : ℕ → Bool) (block : ℕ → ℕ → List Test) where
+module _ (watched : ℕ → Bool) (block : ℕ → Moment → List Test) where
   -- 31 and 32 from index i on; the first n instructions are of a site that was compared
   abbrev pub walk : ℕ → ℕ → List Instr → Option Fault
   walk i zero [] = None

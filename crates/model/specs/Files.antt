@@ -11,6 +11,7 @@ use Rattle.std.specs.declared.result.Result.the-variants.{Ok}
 use Rattle.model.specs.declared.Own.{Own}
 use Rattle.model.specs.declared.Instr.{Instr}
 use Rattle.model.specs.Policy.{Automaton, Blocks, eqZ}
+use Rattle.model.specs.Moments.{each-moment}
 use Rattle.model.specs.Machine.{Applet, Machine, fresh}
 use Rattle.model.specs.Weave.{Plain, woven-applet}
 use Rattle.model.specs.Check.{Fault, method-fault}
@@ -42,7 +43,7 @@ all-below (suc n) p = p n && all-below n p
 abbrev pub policy-limits : Automaton → Blocks → Read (Unit {0})
 policy-limits A B =
     need (leb (A .width) 32) TooManyCells >>
-    need (all-below 64 (λ k. all-below 3 (λ t. leb (length (B k t 0)) 1000))) BlockTooLong
+    need (all-below 64 (λ k. each-moment (λ t. leb (length (B k t 0)) 1000))) BlockTooLong
 
 -- code without opcodes from 20 up, from index i of a method whose instructions have their places by `at`
 abbrev pub plain-code : (ℕ → ℕ) → ℕ → List Instr → Read (List Own)

@@ -1,3 +1,5 @@
+-- moments and their numbers
+pub mod Moments
 -- what a policy means, what its blocks do, what it must show
 pub mod Policy
 -- the machine: step and answer
@@ -28,6 +30,9 @@ pub mod Kinds
 pub mod Weaving
 -- what was woven, stripped of its sites
 pub mod Stripping
+-- what areas hold after a call, and the calls on a policy
+pub mod Areas
+pub mod Calls
 -- one policy kept beside a run
 pub mod Watch
 -- what enforcement means, over files and whole runs

@@ -12,6 +12,7 @@ use Rattle.std.specs.declared.option.Option.{Option}
 use Rattle.std.specs.declared.option.Option.the-variants.{Some, None}
 use Rattle.model.specs.declared.Refusal.{Refusal}
 use Rattle.model.specs.declared.Outcome.{Outcome}
+use Rattle.model.specs.declared.Status.{Status}
 use Rattle.model.specs.declared.Reason.{Reason}
 use Rattle.model.specs.declared.Reason.the-variants.{Finished, TooDeep, NotHolder}
 use Rattle.model.specs.declared.Own.{Own}
@@ -25,12 +26,6 @@ pub record Applet : Type 0 where
   pub entries : List ℕ
   pub starts : List ℤ
   pub methods : List (List Instr)
-
--- a thread can be stepped, awaits an answer, or has ended
-pub data Status : Type 0 where
-  ready : Status
-  awaiting : Status
-  ended : Status
 
 -- where a call of a method stands, and its registers r0 to r7
 pub record Frame : Type 0 where
@@ -71,7 +66,7 @@ zeros n = replicate n (pos 0)
 
 -- a thread at index 0 of its method
 abbrev pub new-thread : ℕ → Thread
-new-thread e = record { status = Status.ready; top = record { method = e; index = 0; regs = zeros 8 }; callers = [] }
+new-thread e = record { status = Status.Ready; top = record { method = e; index = 0; regs = zeros 8 }; callers = [] }
 
 -- the machine of an applet that was just loaded
 abbrev pub fresh : Applet → Machine
@@ -161,7 +156,7 @@ on u g f = record { after = with-top u f; shared = g; says = Outcome.Moved }
 
 -- the thread ends with a reason
 abbrev pub finish : Thread → List ℤ → Reason → Local
-finish u g r = record { after = with-status u Status.ended; shared = g; says = Outcome.Ended r }
+finish u g r = record { after = with-status u Status.Ended; shared = g; says = Outcome.Ended r }
 
 -- r0 to the caller's r0, on after its CALL; in the first frame the thread ends
 abbrev pub return : Thread → List ℤ → List Frame → Local
@@ -191,7 +186,7 @@ local (Own.Jump n) u g = on u g (goto (u .top) n)
 local (Own.Brz x n) u g = on u g (goto (u .top) (cond (eqZ (reg (u .top) x) (pos 0)) n (u .top .index + 1)))
 local (Own.Call n) u g = call-in (ltb (length (u .callers)) 15) u g n
 local Own.Ret u g = return u g (u .callers)
-local (Own.Host k n) u g = record { after = with-status u Status.awaiting; shared = g; says = Outcome.Called k (take 4 (u .top .regs)) }
+local (Own.Host k n) u g = record { after = with-status u Status.Awaiting; shared = g; says = Outcome.Called k (take 4 (u .top .regs)) }
 local Own.End u g = finish u g Finished
 
 -- a step by an instruction of the applet's own
@@ -227,9 +222,9 @@ run-instr (Instr.Test i) m t u = test-step m t u (turn (m .args) i (m .cells) (m
 
 -- a thread that is ready runs its instruction
 abbrev pub by-status : Applet → Machine → ℕ → Thread → Status → Stepped
-by-status p m t u Status.ready = run-instr (fetch p (u .top)) m t u
-by-status p m t u Status.awaiting = Stepped.refused StillAwaiting
-by-status p m t u Status.ended = Stepped.refused ThreadEnded
+by-status p m t u Status.Ready = run-instr (fetch p (u .top)) m t u
+by-status p m t u Status.Awaiting = Stepped.refused StillAwaiting
+by-status p m t u Status.Ended = Stepped.refused ThreadEnded
 
 -- only a thread that there is, on a machine that has not stopped
 abbrev pub admit : Bool → Bool → Stepped → Stepped
@@ -264,17 +259,17 @@ raised-target (Instr.Test x) = 0
 -- a thread with its answer v, behind the HOST when normal, at its target when raised
 abbrev pub resume : Applet → Thread → Bool → ℤ → Thread
 resume p u raised v = record {
-  status = Status.ready;
+  status = Status.Ready;
   top = record { method = u .top .method; index = cond raised (raised-target (fetch p (u .top))) (u .top .index + 1); regs = set (u .top .regs) 0 v };
   callers = u .callers;
 }
 
 -- a thread that awaits takes the answer, into a4 too if it holds the lock
 abbrev pub answered : Applet → Machine → ℕ → Thread → Bool → ℤ → Status → Stepped
-answered p m t u raised v Status.awaiting =
+answered p m t u raised v Status.Awaiting =
     Stepped.done (with-args (with-thread m t (resume p u raised v)) (cond (holds (m .holder) t) (set (m .args) 4 v) (m .args))) Outcome.Moved
-answered p m t u raised v Status.ready = Stepped.refused NotAwaiting
-answered p m t u raised v Status.ended = Stepped.refused NotAwaiting
+answered p m t u raised v Status.Ready = Stepped.refused NotAwaiting
+answered p m t u raised v Status.Ended = Stepped.refused NotAwaiting
 
 -- answer(thread, normal or raised, value)
 abbrev pub answer : Applet → Machine → ℕ → Bool → ℤ → Stepped

@@ -13,14 +13,15 @@ use Rattle.std.specs.shelf.Lists.{All}
 use Rattle.std.specs.shelf.Signed.{wrapped}
 use Rattle.std.specs.declared.option.Option.{Option}
 use Rattle.std.specs.declared.option.Option.the-variants.{Some, None}
+use Rattle.model.specs.declared.Moment.{Moment}
 use Rattle.model.specs.declared.Operator.{Operator}
 use Rattle.model.specs.declared.Operator.the-variants.{Plus, Minus, Less, Equal, Both, Either}
 use Rattle.model.specs.declared.Test.{Test}
 use Rattle.model.specs.declared.Test.the-variants.{Skip, Skz, Viol, Mset, Mcell, Marg, Store, Op}
 
--- a watched call at a moment: 0 before, 1 after, 2 raised
+-- a watched call at a moment
 pub record Event : Type 0 where
-  pub moment : ℕ
+  pub moment : Moment
   pub call : ℕ
   pub args : List ℤ
   pub answer : ℤ
@@ -34,7 +35,7 @@ pub record Automaton : Type 0 where
 
 -- call, moment, first cell
 abbrev pub Blocks : Type 0
-Blocks = ℕ → ℕ → ℕ → List Test
+Blocks = ℕ → Moment → ℕ → List Test
 
 -- two signed numbers are equal
 abbrev pub eqZ : ℤ → ℤ → Bool
@@ -104,12 +105,13 @@ due l r None = End.stop
 due l r (Some c) = End.cells (l ++ (c ++ r))
 
 -- how many of a0 to a4 a block of this moment may read: before has no answer
-abbrev pub arguments : ℕ → ℕ
-arguments zero = 4
-arguments (suc t) = 5
+abbrev pub arguments : Moment → ℕ
+arguments Moment.Before = 4
+arguments Moment.After = 5
+arguments Moment.Raised = 5
 
 -- operands in their ranges at a moment, cells from `low` up to below `high`
-abbrev pub Formed : ℕ → ℕ → ℕ → Test → Type 0
+abbrev pub Formed : Moment → ℕ → ℕ → Test → Type 0
 Formed t low high (Skip n) = Unit {0}
 Formed t low high (Skz x n) = x < 8
 Formed t low high Viol = Unit {0}
@@ -146,16 +148,21 @@ pub record Showing (A : Automaton) (B : Blocks) : Type 0 where
   pub passes : (e : Event) (c : List ℤ) → length c ≡ A .width → A .watched (e .call) ≡ false → A .step e c ≡ Some c
   -- before ignores the answer
   pub blind : (k : ℕ) (xs : List ℤ) (v w : ℤ) (c : List ℤ) → length xs ≡ 4 → length c ≡ A .width →
-      A .step (record { moment = 0; call = k; args = xs; answer = v }) c ≡ A .step (record { moment = 0; call = k; args = xs; answer = w }) c
+      A .step (record { moment = Moment.Before; call = k; args = xs; answer = v }) c ≡ A .step (record { moment = Moment.Before; call = k; args = xs; answer = w }) c
   -- call and moment alone fix a block's length
-  pub placed : (k t f g : ℕ) → length (B k t f) ≡ length (B k t g)
+  pub placed : (k : ℕ) (t : Moment) (f g : ℕ) → length (B k t f) ≡ length (B k t g)
   -- an unwatched call's blocks are empty
-  pub unwatched : (k t f : ℕ) → A .watched k ≡ false → B k t f ≡ []
+  pub unwatched : (k : ℕ) (t : Moment) (f : ℕ) → A .watched k ≡ false → B k t f ≡ []
   -- operands in their ranges, cells in the width from the first cell, no a4 before
-  pub formed : (k t f : ℕ) → All (Formed t f (f + A .width)) (B k t f)
+  pub formed : (k : ℕ) (t : Moment) (f : ℕ) → All (Formed t f (f + A .width)) (B k t f)
   -- skips stay inside or land at the end
-  pub enclosed : (k t f : ℕ) → Enclosed (B k t f)
+  pub enclosed : (k : ℕ) (t : Moment) (f : ℕ) → Enclosed (B k t f)
   -- from the top, with any cells, any scratch and the event in a0 to a4, a block reaches its end with the stepped cells, or VIOL exactly if the step refuses
-  pub runs : (k t f : ℕ) → t < 3 → (l c r : List ℤ) → length l ≡ f → length c ≡ A .width →
+  pub runs : (k : ℕ) (t : Moment) (f : ℕ) (l c r : List ℤ) → length l ≡ f → length c ≡ A .width →
       (xs : List ℤ) (v : ℤ) (m : List ℤ) → length xs ≡ 4 → length m ≡ 8 →
       end (exec (xs ++ (v ∷ [])) 0 (B k t f) (l ++ (c ++ r)) m) ≡ due l r (A .step (record { moment = t; call = k; args = xs; answer = v }) c)
+
+-- from cells, four arguments and an answer of signed 32 bits, a step gives cells of signed 32 bits
+abbrev pub StaysSigned : Automaton → Type 0
+StaysSigned A = (e : Event) (c d : List ℤ) → length c ≡ A .width → length (e .args) ≡ 4 → All (SFits w32) c → All (SFits w32) (e .args) →
+    SFits w32 (e .answer) → A .step e c ≡ Some d → All (SFits w32) d

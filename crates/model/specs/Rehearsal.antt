@@ -7,6 +7,7 @@ use Rattle.std.specs.declared.option.Option.{Option}
 use Rattle.std.specs.declared.option.Option.the-variants.{Some, None}
 use Rattle.std.specs.declared.result.Result.the-variants.{Ok}
 use Rattle.model.specs.declared.Operator.the-variants.{Plus, Less}
+use Rattle.model.specs.declared.Moment.{Moment}
 use Rattle.model.specs.declared.Test.{Test}
 use Rattle.model.specs.declared.Test.the-variants.{Skip, Skz, Viol, Mset, Mcell, Marg, Store, Op}
 use Rattle.model.specs.declared.Outcome.{Outcome}
@@ -64,7 +65,7 @@ woven-file v =
     0x0E ∷ 0 ∷ 0 ∷ 0 ∷ []
 
 -- the block of a policy file for a call, a moment and a first cell
-abbrev pub block-in : List ℕ → ℕ → ℕ → ℕ → Read (List Test)
+abbrev pub block-in : List ℕ → ℕ → Moment → ℕ → Read (List Test)
 block-in f k t first = do
   p ← read-policy f
   Ok (blocks p k t first)
@@ -73,7 +74,7 @@ block-in f k t first = do
 abbrev pub step-in : List ℕ → ℤ → List ℤ → Read (Option (List ℤ))
 step-in f v c = do
   p ← read-policy f
-  Ok (automaton p .step (record { moment = 0; call = 5; args = v ∷ pos 0 ∷ pos 0 ∷ pos 0 ∷ []; answer = pos 0 }) c)
+  Ok (automaton p .step (record { moment = Moment.Before; call = 5; args = v ∷ pos 0 ∷ pos 0 ∷ pos 0 ∷ []; answer = pos 0 }) c)
 
 -- the weaving of two files, into an area of n bytes
 abbrev pub weave-in : List ℕ → List ℕ → ℕ → Read (List ℕ)
@@ -114,7 +115,7 @@ pub record Answers : Type 0 where
 -- by the definitions
 abbrev pub computed : Answers
 computed = record {
-  block = block-in policy-file 5 0 0;
+  block = block-in policy-file 5 Moment.Before 0;
   at-nine = step-in policy-file (pos 9) (pos 0 ∷ []);
   at-ten = step-in policy-file (pos 10) (pos 0 ∷ []);
   wrapping = step-in policy-file (pos 1) (pos 2147483647 ∷ []);

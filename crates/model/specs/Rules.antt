@@ -12,7 +12,9 @@ use Rattle.std.specs.shelf.Lists.{kept-by, joined, All}
 use Rattle.std.specs.declared.option.Option.{Option}
 use Rattle.std.specs.declared.option.Option.the-variants.{Some, None}
 use Rattle.std.specs.declared.result.Result.the-variants.{Ok}
+use Rattle.model.specs.declared.Moment.{Moment}
 use Rattle.model.specs.declared.Operator.{Operator}
+use Rattle.model.specs.Moments.{moment-number, moment-of, same-moment}
 use Rattle.model.specs.declared.Test.{Test}
 use Rattle.model.specs.declared.Test.the-variants.{Skip, Skz, Viol, Mset, Mcell, Marg, Store, Op}
 use Rattle.model.specs.Policy.{Automaton, Blocks, eqZ, operate, arguments}
@@ -39,7 +41,7 @@ pub record Update : Type 0 where
 -- for a call and a moment: a guard, and what it updates
 pub record Rule : Type 0 where
   pub call : ℕ
-  pub moment : ℕ
+  pub moment : Moment
   pub guard : Expr
   pub updates : List Update
 
@@ -81,8 +83,8 @@ acted a c [] = None
 acted a c (r ∷ rs) = let o = acted a c rs in cond (eqZ (value a c (r .guard)) (pos 0)) o (Some (updated a (r .updates) c))
 
 -- the rules for a call and a moment, in file order
-abbrev pub rules-of : List Rule → ℕ → ℕ → List Rule
-rules-of rs k t = kept-by (λ r. eqb (r .call) k && eqb (r .moment) t) rs
+abbrev pub rules-of : List Rule → ℕ → Moment → List Rule
+rules-of rs k t = kept-by (λ r. eqb (r .call) k && same-moment (r .moment) t) rs
 
 -- without rules it passes
 abbrev pub rules-step : List ℤ → List ℤ → List Rule → Option (List ℤ)
@@ -141,7 +143,7 @@ triples a b c = eqb (length c % 3) 0 && within a b (length c / 3)
 -- a rule whose expressions are not read yet
 pub record Raw : Type 0 where
   pub call : ℕ
-  pub moment : ℕ
+  pub moment : Moment
   pub guard : Field
   pub updates : List Field
 
@@ -156,7 +158,7 @@ rule-field n p c = do
   g ← expect BadPolicyField 68 (p + 5) (drop 2 c)
   h ← tested (triples 1 32 (g .contents)) (p + 5) (g .contents)
   us ← fields 8 69 (update-field n) (next g) (g .rest)
-  Ok (record { call = getD c 0 0; moment = getD c 1 0; guard = h; updates = us })
+  Ok (record { call = getD c 0 0; moment = moment-of (getD c 1 0); guard = h; updates = us })
 
 -- a token in a policy of n cells, where the arguments below a may be read
 abbrev pub token : ℕ → ℕ → ℕ → ℕ → Option Token
@@ -251,7 +253,7 @@ update-bytes u = field 69 (u .cell ∷ expr-bytes (u .value))
 
 -- tag 67
 abbrev pub rule-bytes : Rule → List ℕ
-rule-bytes r = field 67 (r .call ∷ r .moment ∷ field 68 (expr-bytes (r .guard)) ++ joined update-bytes (r .updates))
+rule-bytes r = field 67 (r .call ∷ moment-number (r .moment) ∷ field 68 (expr-bytes (r .guard)) ++ joined update-bytes (r .updates))
 
 -- the file of a rule policy
 abbrev pub write-rules : Rules → List ℕ
@@ -277,7 +279,6 @@ Valid-update n a u = (u .cell < n) × Valid-expr n a (u .value)
 -- a rule of a policy of n cells
 pub record Valid-rule (n : ℕ) (r : Rule) : Type 0 where
   pub call : r .call ≤ 63
-  pub moment : r .moment ≤ 2
   pub guard : Valid-expr n (arguments (r .moment)) (r .guard)
   pub few : length (r .updates) ≤ 8
   pub updates : All (Valid-update n (arguments (r .moment))) (r .updates)

@@ -8,7 +8,9 @@ use lib.IntN.{ℤ, pos}
 use Rattle.std.specs.declared.option.Option.{Option}
 use Rattle.std.specs.declared.option.Option.the-variants.{Some, None}
 use Rattle.model.specs.Policy.{Automaton, Event}
+use Rattle.model.specs.declared.Moment.{Moment}
 use Rattle.model.specs.declared.Outcome.{Outcome}
+use Rattle.model.specs.Moments.{is-before}
 use Rattle.model.specs.Machine.{Applet, Machine, Stepped, step, answer}
 
 -- one step of a thread, or one answer to it, normal or raised
@@ -69,9 +71,9 @@ pub record Open : Type 0 where
   pub args : List ℤ
 
 -- after a normal answer, or raised
-abbrev pub moment-of : Bool → ℕ
-moment-of true = 2
-moment-of false = 1
+abbrev pub answer-moment : Bool → Moment
+answer-moment true = Moment.Raised
+answer-moment false = Moment.After
 
 -- the open calls, by thread, with that of thread t set
 abbrev pub now-open : ℕ → Option Open → (ℕ → Option Open) → ℕ → Option Open
@@ -80,13 +82,13 @@ now-open t c o u = cond (eqb u t) c (o u)
 -- the event of an answer to a call: after or raised, with the call's own arguments
 abbrev pub reply-event : (ℕ → Bool) → Option Open → Bool → ℤ → List Event
 reply-event w None b v = []
-reply-event w (Some c) b v = cond (w (c .number)) (record { moment = moment-of b; call = c .number; args = c .args; answer = v } ∷ []) []
+reply-event w (Some c) b v = cond (w (c .number)) (record { moment = answer-moment b; call = c .number; args = c .args; answer = v } ∷ []) []
 
 -- the events in what was seen, o being the open calls
 abbrev pub events : (ℕ → Bool) → (ℕ → Option Open) → List Seen → List Event
 events w o [] = []
 events w o (Seen.call t k xs ∷ ss) =
-    cond (w k) (record { moment = 0; call = k; args = xs; answer = pos 0 } ∷ []) [] ++ events w (now-open t (Some (record { number = k; args = xs })) o) ss
+    cond (w k) (record { moment = Moment.Before; call = k; args = xs; answer = pos 0 } ∷ []) [] ++ events w (now-open t (Some (record { number = k; args = xs })) o) ss
 events w o (Seen.reply t b v ∷ ss) = reply-event w (o t) b v ++ events w (now-open t None o) ss
 
 -- an event that is not taken is no before event, and none follows it
@@ -97,7 +99,7 @@ accept-rest A es before (Some c) rest = rest c
 -- the policy accepts the events, stepping from cells c
 abbrev pub Accepts : Automaton → List ℤ → List Event → Type 0
 Accepts A c [] = Unit {0}
-Accepts A c (e ∷ es) = accept-rest A es (eqb (e .moment) 0) (A .step e c) (λ d. Accepts A d es)
+Accepts A c (e ∷ es) = accept-rest A es (is-before (e .moment)) (A .step e c) (λ d. Accepts A d es)
 
 -- at the start no call is open
 abbrev pub none-open : ℕ → Option Open

@@ -11,7 +11,9 @@ use Rattle.std.specs.shelf.Lists.{joined, All}
 use Rattle.std.specs.declared.option.Option.{Option}
 use Rattle.std.specs.declared.option.Option.the-variants.{Some, None}
 use Rattle.std.specs.declared.result.Result.the-variants.{Ok}
+use Rattle.model.specs.declared.Moment.{Moment}
 use Rattle.model.specs.declared.Operator.the-variants.{Equal}
+use Rattle.model.specs.Moments.{moment-number, moment-of, same-moment}
 use Rattle.model.specs.declared.Test.{Test}
 use Rattle.model.specs.declared.Test.the-variants.{Skip, Skz, Viol, Mset, Mcell, Store, Op}
 use Rattle.model.specs.Policy.{Automaton, Blocks}
@@ -21,7 +23,7 @@ use Rattle.model.specs.declared.Refusal.the-variants.{BadPolicyField, BadPolic
 -- for a call and a moment: by state, the next state, or 255 for refused
 pub record Row : Type 0 where
   pub call : ℕ
-  pub moment : ℕ
+  pub moment : Moment
   pub nexts : List ℕ
 
 -- a state table
@@ -31,11 +33,11 @@ pub record Table : Type 0 where
   pub rows : List Row
 
 -- it is the row of that call and moment
-abbrev pub row-for : ℕ → ℕ → Row → Bool
-row-for k t r = eqb (r .call) k && eqb (r .moment) t
+abbrev pub row-for : ℕ → Moment → Row → Bool
+row-for k t r = eqb (r .call) k && same-moment (r .moment) t
 
 -- the next states for a call and a moment, if there is a row
-abbrev pub row-of : List Row → ℕ → ℕ → Option (List ℕ)
+abbrev pub row-of : List Row → ℕ → Moment → Option (List ℕ)
 row-of [] k t = None
 row-of (r ∷ rs) k t = let o = row-of rs k t in cond (row-for k t r) (Some (r .nexts)) o
 
@@ -89,7 +91,7 @@ row-field n p c = tested (eqb (length c) (2 + n) && leb (getD c 0 0) 63 && leb (
 
 -- a row from its bytes
 abbrev pub row-in : List ℕ → Row
-row-in c = record { call = getD c 0 0; moment = getD c 1 0; nexts = drop 2 c }
+row-in c = record { call = getD c 0 0; moment = moment-of (getD c 1 0); nexts = drop 2 c }
 
 -- row by row, the rows before being known: 23 at the second for a call and moment
 abbrev pub read-rows : List Row → List Field → Read (List Row)
@@ -113,7 +115,7 @@ read-table f = do
 
 -- tag 98
 abbrev pub row-bytes : Row → List ℕ
-row-bytes r = field 98 (r .call ∷ r .moment ∷ r .nexts)
+row-bytes r = field 98 (r .call ∷ moment-number (r .moment) ∷ r .nexts)
 
 -- the file of a state table
 abbrev pub write-table : Table → List ℕ
@@ -121,7 +123,7 @@ write-table p = field 97 (1 ∷ p .states ∷ p .start ∷ []) ++ joined row-byt
 
 -- a row of a table of n states
 abbrev pub Valid-row : ℕ → Row → Type 0
-Valid-row n r = (r .call ≤ 63) × (r .moment ≤ 2) × (length (r .nexts) ≡ n) × All (λ q. (q < n) ⊎ (q ≡ 255)) (r .nexts)
+Valid-row n r = (r .call ≤ 63) × (length (r .nexts) ≡ n) × All (λ q. (q < n) ⊎ (q ≡ 255)) (r .nexts)
 
 -- no row for a call and moment of a row before
 abbrev pub Apart : List Row → List Row → Type 0

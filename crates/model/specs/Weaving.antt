@@ -5,6 +5,7 @@ use Prim.Native.Nat.{ℕ, _<_, _≤_}
 use lib.ListN.{length}
 use Rattle.std.specs.shelf.Lists.{All}
 use Rattle.std.specs.declared.result.Result.the-variants.{Ok}
+use Rattle.model.specs.declared.Moment.{Moment}
 use Rattle.model.specs.Policy.{Automaton, Blocks}
 use Rattle.model.specs.Weave.{Plain, plain-applet, woven-applet}
 use Rattle.model.specs.Reading.{read-applet, write-applet}
@@ -14,7 +15,7 @@ pub record Limited (A : Automaton) (B : Blocks) : Type 0 where
   -- it has at most 32 cells
   pub cells : A .width ≤ 32
   -- the block of each call at each moment has at most 1,000 instructions
-  pub blocks : (k t : ℕ) → k < 64 → t < 3 → length (B k t 0) ≤ 1000
+  pub blocks : (k : ℕ) (t : Moment) → k < 64 → length (B k t 0) ≤ 1000
 
 -- the woven file of a plain applet
 abbrev pub woven-bytes : Automaton → Blocks → Plain → List ℕ

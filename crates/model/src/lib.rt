@@ -65,6 +65,21 @@ pub enum Moment {
     Raised,
 }
 
+// What a policy says of an event: it takes it, or refuses it, which is no refusal of the call.
+#[derive(Clone, Copy, PartialEq, Eq, Debug)]
+pub enum Verdict {
+    Taken,
+    Refused,
+}
+
+// A thread can be stepped, awaits an answer, or has ended.
+#[derive(Clone, Copy, PartialEq, Eq, Debug)]
+pub enum Status {
+    Ready,
+    Awaiting,
+    Ended,
+}
+
 // Why a thread ended: END, or RET in its first frame; CALL with all frames in use; UNLOCK without
 // the lock.
 #[derive(Clone, Copy, PartialEq, Eq, Debug)]

@@ -31,6 +31,6 @@ returns-then-not-fits c =
 pub returns : need.returns
 returns c =
     let v : c .build .result ≡ decode (c .args .methods) (quad-at (c .args .bytes) 0) =
-        c .build .ensures ∙
-        decode-inside (c .args .methods) (quad-at (c .args .bytes) 0) (row (c .in-Some .e)) (omega arith) (c .in-Some .ensures tt) (sym (c .if-not-fits .ensures tt)) in
+    c .build .ensures ∙
+    decode-inside (c .args .methods) (quad-at (c .args .bytes) 0) (row (c .in-Some .e)) (omega arith) (c .in-Some .ensures tt) (sym (c .if-not-fits .ensures tt)) in
     record { value = v; back = back (c .args .methods) (quad-at (c .args .bytes) 0) (c .build .result) (omega arith) v }
