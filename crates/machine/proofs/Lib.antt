@@ -1,0 +1,2 @@
+-- registers and frames
+pub mod Frames
