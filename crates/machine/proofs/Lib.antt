@@ -1,2 +1,4 @@
 -- registers and frames
 pub mod Frames
+-- threads
+pub mod Rows

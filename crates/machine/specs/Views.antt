@@ -1,15 +1,21 @@
 -- What the stored machine means, in the model's terms.
-use mathlib.Core.List.{List, [], _∷_}
-use Prim.Native.Nat.{ℕ, zero, suc, min}
+use mathlib.Core.Path.{_≡_}
+use mathlib.Core.List.{List, [], _∷_, map}
+use Prim.Native.Nat.{ℕ, zero, suc, min, _<_}
 use lib.IntN.{ℤ}
-use lib.ListN.{getD}
+use lib.ListN.{getD, take}
 use Rattle.std.specs.declared.option.Option.{Option}
 use Rattle.std.specs.declared.option.Option.the-variants.{Some, None}
+use Rattle.std.specs.declared.result.Result.{Result}
+use Rattle.std.specs.declared.result.Result.the-variants.{Ok, Err}
 use Rattle.model.specs.Policy.{Turn}
+use Rattle.model.specs.declared.Outcome.{Outcome}
+use Rattle.model.specs.declared.Refusal.{Refusal}
 use Rattle.model.specs.Machine as model
 use Rattle.model.specs.declared.Status.{Status}
 use Rattle.machine.specs.declared.threads.Frame.{Frame}
 use Rattle.machine.specs.declared.threads.Thread.{Thread}
+use Rattle.machine.specs.declared.states.State.{State}
 
 -- how many instructions a test passes over; none if it stops the machine
 abbrev pub passes : Turn → Option ℕ
@@ -56,3 +62,39 @@ thread-of u = record {
   top = record { method = u .top .method; index = index-of (u .status) (u .top .index); regs = u .top .regs };
   callers = callers-of (min (u .depth) 15) (u .callers);
 }
+
+-- past the end of the threads
+abbrev pub no-thread : Thread
+no-thread = record { status = Status.Ready; depth = 0; top = no-frame; callers = [] }
+
+-- the first n threads
+abbrev pub threads-of : ℕ → List Thread → List model.Thread
+threads-of n us = map thread-of (take n us)
+
+-- the machine
+abbrev pub machine-of : State → model.Machine
+machine-of m = record {
+  threads = threads-of (m .count) (m .threads);
+  shared = m .shared;
+  cells = m .cells;
+  scratch = m .scratch;
+  args = m .args;
+  holder = m .holder;
+  halted = m .halted;
+}
+
+-- what a step or an answer says
+abbrev pub said : model.Stepped → Result Outcome Refusal
+said (model.Stepped.done n o) = Ok o
+said (model.Stepped.refused r) = Err r
+
+-- thread t as it is stored
+abbrev pub stored : State → ℕ → Thread
+stored m t = getD (m .threads) t no-thread
+
+-- thread t can run an instruction: there is one, it is ready, and its index is one of a method's
+pub record Steps (m : State) (t : ℕ) : Type 0 where
+  pub room : t < 8
+  pub there : t < m .count
+  pub ready : stored m t .status ≡ Status.Ready
+  pub low : stored m t .top .index < 65536

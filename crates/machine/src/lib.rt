@@ -1,7 +1,9 @@
 // The machine that runs applets: load, step, answer.
 mod numbers;
+mod states;
 mod threads;
 mod turns;
 
+pub use states::State;
 pub use threads::Frame;
 pub use threads::Thread;

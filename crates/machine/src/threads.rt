@@ -81,6 +81,14 @@ impl Thread {
         self.top.index += 1;
     }
 
+    // Goes on behind its instruction and n more.
+    pub fn skip(&mut self, n: u16)
+        requires { ⌜ (now self .status ≡ IsReady) × (now self .top .index < 65536) ⌝ }
+        ensures { λ _. ⌜ thread-of (now (self .exit)) ≡ with-top (thread-of (now (self .entry))) (going (thread-of (now (self .entry)) .top) (thread-of (now (self .entry)) .top .index + 1 + n)) ⌝ }
+    {
+        self.top.index = self.top.index + 1 + n as u32;
+    }
+
     pub fn end(&mut self)
         requires { ⌜ now self .status ≡ IsReady ⌝ }
         ensures { λ _. ⌜ thread-of (now (self .exit)) ≡ with-status (thread-of (now (self .entry))) IsEnded ⌝ }

@@ -1,0 +1,127 @@
+// The state of a machine: threads, shared numbers, cells, scratch numbers, arguments and the lock.
+ghost use mathlib.Core.Path.{_≡_};
+ghost use Prim.Native.Nat.{ℕ, _+_, _≤_, _<_};
+ghost use mathlib.Core.List.{_++_};
+ghost use lib.ListN.{length, getD, set, drop};
+ghost use Rattle.model.specs.declared.Status.the-variants.{Ready as IsReady};
+ghost use Rattle.model.specs.Machine.{run-instr, thread as nth-thread, lock-step, unlock-step, holds, test-step, own-step, local};
+ghost use Rattle.model.specs.Policy.{turn as turning};
+ghost use Rattle.model.specs.Runs.{after};
+ghost use Rattle.std.specs.declared.result.Result.the-variants.{Ok};
+ghost use Rattle.machine.specs.Ranges.{OwnValid, TestValid, Valid};
+ghost use Rattle.machine.specs.Views.{machine-of, said, Steps};
+use crate::threads::Thread;
+use crate::turns::turn;
+use model::Instr;
+use model::Outcome;
+use model::Own;
+use model::Reason;
+use model::Refusal;
+use model::Test;
+
+// The first `count` threads are in use. There is no reference and no search in it: a step writes to
+// one thread in place.
+#[derive(Clone, Copy)]
+pub struct State {
+    pub threads: [Thread; 8],
+    pub count: u8,
+    pub shared: [i32; 64],
+    pub cells: [i32; 32],
+    pub scratch: [i32; 8],
+    pub args: [i32; 5],
+    pub holder: Option<u8>,
+    pub halted: bool,
+}
+
+// Writes r0 to r3 into a0 to a3.
+fn copy(args: &mut [i32; 5], regs: [i32; 4])
+    ensures { λ _. ⌜ now (args .exit) ≡ regs ++ drop 4 (now (args .entry)) ⌝ }
+{
+    args[0] = regs[0];
+    args[1] = regs[1];
+    args[2] = regs[2];
+    args[3] = regs[3];
+}
+
+impl State {
+    fn run_own(&mut self, t: u8, i: Own) -> Outcome
+        requires { ⌜ Steps (now self) t × OwnValid i ⌝ }
+        ensures value { λ r. ⌜ r ≡ local i (nth-thread (machine-of (now (self .entry))) t) (now (self .entry) .shared) .says ⌝ }
+        ensures after { λ _. ⌜ machine-of (now (self .exit)) ≡ after (machine-of (now (self .entry))) (run-instr (Instr.Own i) (machine-of (now (self .entry))) t (nth-thread (machine-of (now (self .entry))) t)) ⌝ }
+    {
+        self.threads[t as usize].run(i, &mut self.shared)
+    }
+
+    // LOCK takes the lock, and copies r0 to r3 into a0 to a3.
+    fn lock(&mut self, t: u8) -> Result<Outcome, Refusal>
+        requires { ⌜ Steps (now self) t ⌝ }
+        ensures value { λ r. ⌜ r ≡ said (lock-step (now (self .entry) .holder) (machine-of (now (self .entry))) t (nth-thread (machine-of (now (self .entry))) t)) ⌝ }
+        ensures after { λ _. ⌜ machine-of (now (self .exit)) ≡ after (machine-of (now (self .entry))) (lock-step (now (self .entry) .holder) (machine-of (now (self .entry))) t (nth-thread (machine-of (now (self .entry))) t)) ⌝ }
+    {
+        if let Some(_) = self.holder {
+            return Err(Refusal::LockHeld);
+        }
+        self.holder = Some(t);
+        let th = &mut self.threads[t as usize];
+        copy(&mut self.args, th.arguments());
+        th.next();
+        Ok(Outcome::Moved)
+    }
+
+    // Whether thread t holds the lock.
+    fn holds(&self, t: u8) -> bool
+        ensures { λ r. ⌜ r ≡ holds (now (self .entry) .holder) t ⌝ }
+    {
+        match self.holder {
+            Some(h) => h == t,
+            None => false,
+        }
+    }
+
+    // UNLOCK frees the lock; a thread that does not hold it ends.
+    fn unlock(&mut self, t: u8) -> Outcome
+        requires { ⌜ Steps (now self) t ⌝ }
+        ensures value { λ r. ⌜ Ok r ≡ said (unlock-step (holds (now (self .entry) .holder) t) (machine-of (now (self .entry))) t (nth-thread (machine-of (now (self .entry))) t)) ⌝ }
+        ensures after { λ _. ⌜ machine-of (now (self .exit)) ≡ after (machine-of (now (self .entry))) (unlock-step (holds (now (self .entry) .holder) t) (machine-of (now (self .entry))) t (nth-thread (machine-of (now (self .entry))) t)) ⌝ }
+    {
+        if !self.holds(t) {
+            self.threads[t as usize].end();
+            return Outcome::Ended(Reason::NotHolder);
+        }
+        self.holder = None;
+        self.threads[t as usize].next();
+        Outcome::Moved
+    }
+
+    // A test: on behind those that it passes over, or the machine stops.
+    fn run_test(&mut self, t: u8, i: Test) -> Outcome
+        requires { ⌜ Steps (now self) t × TestValid i ⌝ }
+        ensures value { λ r. ⌜ Ok r ≡ said (run-instr (Instr.Test i) (machine-of (now (self .entry))) t (nth-thread (machine-of (now (self .entry))) t)) ⌝ }
+        ensures after { λ _. ⌜ machine-of (now (self .exit)) ≡ after (machine-of (now (self .entry))) (run-instr (Instr.Test i) (machine-of (now (self .entry))) t (nth-thread (machine-of (now (self .entry))) t)) ⌝ }
+    {
+        match turn(i, &self.args, &mut self.cells, &mut self.scratch) {
+            Some(n) => {
+                self.threads[t as usize].skip(n);
+                Outcome::Moved
+            }
+            None => {
+                self.halted = true;
+                Outcome::Stop
+            }
+        }
+    }
+
+    // One instruction of thread t.
+    pub fn execute(&mut self, t: u8, i: Instr) -> Result<Outcome, Refusal>
+        requires { ⌜ Steps (now self) t × Valid i ⌝ }
+        ensures value { λ r. ⌜ r ≡ said (run-instr i (machine-of (now (self .entry))) t (nth-thread (machine-of (now (self .entry))) t)) ⌝ }
+        ensures after { λ _. ⌜ machine-of (now (self .exit)) ≡ after (machine-of (now (self .entry))) (run-instr i (machine-of (now (self .entry))) t (nth-thread (machine-of (now (self .entry))) t)) ⌝ }
+    {
+        match i {
+            Instr::Own(i) => Ok(self.run_own(t, i)),
+            Instr::Lock(_) => self.lock(t),
+            Instr::Unlock => Ok(self.unlock(t)),
+            Instr::Test(i) => Ok(self.run_test(t, i)),
+        }
+    }
+}
