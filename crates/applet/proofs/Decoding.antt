@@ -1,10 +1,9 @@
 -- The instruction of four bytes, by the row of its opcode.
-use mathlib.Core.Path.{_≡_, refl, sym, ap, _∙_, subst}
-use mathlib.Core.Bool.{true, false, cond}
+use mathlib.Core.Path.{_≡_, refl, sym, ap, ap₂, _∙_, subst}
+use mathlib.Core.Bool.{Bool, true, false, cond}
 use mathlib.Core.List.{List, [], _∷_}
 use Prim.Native.Nat.{ℕ, _%_, _<_}
 use native.Mathlib.Omega.{arith}
-use lib.ListN.{drop}
 use Rattle.std.specs.shelf.Lists.{All}
 use Rattle.std.specs.Options.{mapped}
 use Rattle.std.specs.declared.option.Option.{Option}
@@ -13,10 +12,16 @@ use Rattle.std.proofs.shelf.Tests.{ltb-true, and-parts}
 use Rattle.model.specs.declared.Own.{Own}
 use Rattle.model.specs.declared.Test.{Test}
 use Rattle.model.specs.declared.Instr.{Instr}
-use Rattle.model.specs.Words.{word, Quad, Entry, operator-of, limit, table, find, made, decode}
-use Rattle.model.proofs.Words.{found, split}
+use Rattle.model.specs.declared.Refusal.{Refusal}
+use Rattle.model.specs.declared.Refusal.the-variants.{BadInstruction, BadLanding}
+use Rattle.std.specs.declared.result.Result.the-variants.{Ok, Err}
+use Rattle.model.specs.Words.{word, Quad, Entry, operator-of, limit, table, find, made, decode, fits, lands, lands-by, word-of}
+use Rattle.model.specs.Fields.{Read, refuse}
+use Rattle.model.specs.Reading.{landed}
+use Rattle.model.proofs.Words.{found, Writes, writes}
 use Rattle.applet.specs.Table.{Row, ranges, row-fits}
 use Rattle.applet.specs.Instructions.{instr-of}
+use Rattle.applet.specs.Stages.{passed, row-lands, row-judged}
 
 -- what the code makes of an entry's opcode is what the entry makes
 abbrev Builds : Entry → Type 0
@@ -136,3 +141,40 @@ module _ (n : ℕ) (q : Quad) where
       let b = and-parts _ _ u in
       let m = k .0 n (q .b) (word (q .c) (q .d)) l (ltb-true _ _ (b .1)) in
       rw (f, u) (ap (λ o. instr-of o (q .b) (word (q .c) (q .d))) (k .1) ∙ m)
+
+  -- where the instruction of an entry leads, by the entry
+  lands-made : (size i : ℕ) (e : Entry) → find (q .a) table ≡ Some e → fits n e (q .b) (word (q .c) (q .d)) ≡ true →
+      lands size i (e .make (q .b) (word (q .c) (q .d))) ≡ row-lands size i (ranges e) (word (q .c) (q .d))
+  lands-made size i e f t =
+      let k = found Writes (q .a) table e writes f in
+      let b = and-parts _ _ t in
+      let w = k .0 n (q .b) (word (q .c) (q .d)) (ltb-true _ _ (b .0)) (ltb-true _ _ (b .1)) in
+      let g : find (word-of (e .make (q .b) (word (q .c) (q .d))) .op) table ≡ Some e = ap (λ o. find o table) (w .0 ∙ sym (k .1)) ∙ f in
+      ap₂ (λ y o. lands-by size i y o) (w .2) g
+
+  pass-cond : (b : Bool) (c : Instr) (r : Refusal) → passed (cond b (Ok c) (refuse r)) (Ok tt) ≡ cond b (Ok tt) (refuse r)
+  pass-cond true c r = refl
+  pass-cond false c r = refl
+
+  judged-fit : (size i p : ℕ) (e : Entry) → find (q .a) table ≡ Some e → (b : Bool) → fits n e (q .b) (word (q .c) (q .d)) ≡ b →
+      row-judged n size i p (q .b) (word (q .c) (q .d)) (Some (ranges e)) ≡ passed (landed size i p (made n (q .b) (word (q .c) (q .d)) (Some e))) (Ok tt)
+  judged-fit size i p e f true t = rw t
+      (sym (ap (λ b. cond b (Ok tt) (refuse (BadLanding p))) (lands-made size i e f t)) ∙
+      sym (pass-cond (lands size i (e .make (q .b) (word (q .c) (q .d)))) (e .make (q .b) (word (q .c) (q .d))) (BadLanding p)))
+  judged-fit size i p e f false t = rw t
+
+  judged-entry : (size i p : ℕ) (r : Row) (e : Entry) → find (q .a) table ≡ Some e → ranges e ≡ r →
+      row-judged n size i p (q .b) (word (q .c) (q .d)) (Some r) ≡ passed (landed size i p (decode n q)) (Ok tt)
+  unfolding decode
+  judged-entry size i p r e f s =
+      subst (λ (k : Row). row-judged n size i p (q .b) (word (q .c) (q .d)) (Some k) ≡ passed (landed size i p (decode n q)) (Ok tt)) s
+      (judged-fit size i p e f (fits n e (q .b) (word (q .c) (q .d))) refl ∙
+      ap (λ o. passed (landed size i p (made n (q .b) (word (q .c) (q .d)) o)) (Ok tt)) (sym f))
+
+  -- an instruction is judged by the row of its opcode
+  pub judged-row : (size i p : ℕ) (r : Row) → Some r ≡ mapped ranges (find (q .a) table) →
+      row-judged n size i p (q .b) (word (q .c) (q .d)) (Some r) ≡ passed (landed size i p (decode n q)) (Ok tt)
+  judged-row size i p r h = let w = from-row (find (q .a) table) r h in judged-entry size i p r (w .0) (w .1) (w .2)
+
+  pub judged-none : (size i p : ℕ) → None ≡ mapped ranges (find (q .a) table) → Err (BadInstruction p) ≡ passed (landed size i p (decode n q)) (Ok tt)
+  judged-none size i p h = ap (λ o. passed (landed size i p o) (Ok tt)) (decode-none h)

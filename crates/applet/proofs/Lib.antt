@@ -2,3 +2,5 @@
 pub mod Opcodes
 -- the instruction of four bytes
 pub mod Decoding
+-- the loops of the reader
+pub mod Loops

@@ -4,3 +4,7 @@ pub mod Parts
 pub mod Table
 -- instructions as numbers
 pub mod Instructions
+-- the reading of an applet, place by place
+pub mod Stages
+-- an applet that was read
+pub mod Applets

@@ -1,4 +1,5 @@
 // Applet files: their fields, their instructions, and the reader.
+mod reader;
 mod rows;
 mod table;
 mod words;
@@ -15,3 +16,5 @@ pub use words::Word;
 pub use words::decode;
 pub use words::encode;
 pub use words::operator_number;
+pub use reader::Applet;
+pub use reader::Layout;

@@ -1,5 +1,7 @@
 // Fields: a tag, a length in two bytes, the contents.
 ghost use mathlib.Core.Path.{_≡_};
+ghost use lib.Dec.{leb};
+ghost use lib.ListN.{length};
 ghost use Rattle.model.specs.Fields.{standing, behind};
 ghost use Rattle.applet.specs.Parts.{stood, due-stood, due, part-tag, part-contents, made-part};
 
@@ -139,6 +141,13 @@ impl<'a> Fields<'a> {
         ensures { λ r. ⌜ r ≡ now (self .entry) .at ⌝ }
     {
         self.at
+    }
+
+    // Whether the holder has ended.
+    pub fn ended(&self) -> bool
+        ensures { λ r. ⌜ r ≡ leb (length (now (now (self .entry) .holder))) (now (self .entry) .at) ⌝ }
+    {
+        self.at >= self.holder.len()
     }
 
     // The next field, none at the holder's end, or a fault at its place; the cursor goes behind a

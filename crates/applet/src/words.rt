@@ -10,6 +10,7 @@ ghost use Rattle.model.specs.Words.{operator-of, operator-number, limit, quad-a
 ghost use Rattle.std.specs.declared.option.Option.the-variants.{Some};
 ghost use Rattle.applet.specs.Table.{operand, row, row-fits};
 ghost use Rattle.applet.specs.Instructions.{instr-of, numbers};
+ghost use Rattle.applet.specs.Stages.{row-lands};
 use crate::table::Entry;
 use crate::table::Kind;
 use crate::table::Operand;
@@ -93,6 +94,19 @@ impl Entry {
         ensures { λ r. ⌜ r ≡ row-fits methods (row (now (self .entry))) x y ⌝ }
     {
         self.x.takes(x as u32, methods) && self.y.takes(y as u32, methods)
+    }
+
+    // Whether where an instruction at an index leads, by its operand y, lies in a method of that size,
+    // and so does the next instruction if a thread may go on there.
+    pub fn lands(&self, y: u16, index: u16, size: u16) -> bool
+        ensures { λ r. ⌜ r ≡ row-lands size index (row (now (self .entry))) y ⌝ }
+    {
+        let leads = match self.y.kind {
+            Kind::Target => y < size,
+            Kind::Count => index as u32 + 1 + (y as u32) < size as u32,
+            _ => true,
+        };
+        leads && (!self.falls || (index as u32) + 1 < size as u32)
     }
 }
 

@@ -82,11 +82,11 @@ pub same-quad : (q r : Quad) → (q .a ≡ r .a) × (q .b ≡ r .b) × (q .c ≡
 same-quad q r h = λ i. record { a = h .0 i; b = h .1 i; c = h .2 i; d = h .3 i }
 
 -- an entry's word goes back to what it made
-abbrev Writes : Entry → Type 0
+abbrev pub Writes : Entry → Type 0
 Writes e = (n x y : ℕ) → x < limit n (e .x) → y < limit n (e .y) → (word-of (e .make x y) .op ≡ e .op) × (word-of (e .make x y) .x ≡ x) ×
     (word-of (e .make x y) .y ≡ y)
 
-writes : All Writes table
+pub writes : All Writes table
 unfolding table
 writes =
     split Writes 1 table (λ n x y a b. (refl, refl, ofZ-toZ w16 y b), tt)

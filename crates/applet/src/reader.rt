@@ -1,0 +1,245 @@
+// The reader of applets.
+ghost use mathlib.Core.Path.{_≡_};
+ghost use Prim.Native.Nat.{ℕ, _+_, _*_, _≤_, _<_, _/_, _%_};
+ghost use lib.Dec.{ltb};
+ghost use lib.ListN.{length, take, drop, getD};
+ghost use Rattle.std.specs.Vec.{made};
+ghost use Rattle.std.specs.declared.option.Option.the-variants.{Some};
+ghost use Rattle.applet.specs.Table.{row};
+ghost use Rattle.std.specs.declared.result.Result.the-variants.{Ok};
+ghost use Rattle.model.specs.Words.{quads, quad-at, decode};
+ghost use Rattle.model.specs.Reading.{landed};
+ghost use Rattle.model.specs.Fields.{standing, behind, every, contents-at};
+ghost use Rattle.applet.specs.Applets.{found-in};
+ghost use Rattle.applet.specs.Stages.{staged, head-of, entries-of, cells-of, method-of, due-at, places-from, places-in, row-judged, passed, judged, codes-judged};
+use crate::rows::Fields;
+use crate::rows::Part;
+use crate::table::Entry;
+use crate::table::look_up;
+use model::Refusal;
+
+// Where the parts of an applet's file stand: how many threads, cells and methods there are, and the
+// place of each method.
+#[derive(Clone, Copy)]
+pub struct Layout {
+    threads: usize,
+    cells: usize,
+    methods: u8,
+    places: [usize; 32],
+}
+
+// An applet, over the file that it was read from.
+#[derive(Clone, Copy)]
+pub struct Applet<'a> {
+    file: &'a [u8],
+    layout: Layout,
+}
+
+// Whether every byte is below n.
+fn all_below(bytes: &[u8], n: u8) -> bool
+    ensures { λ r. ⌜ r ≡ every (λ e. ltb e n) (now (bytes .entry)) ⌝ }
+{
+    for b in bytes {
+        if *b >= n {
+            return false;
+        }
+    }
+    true
+}
+
+// The head: how many methods there are.
+fn read_head(fields: &mut Fields<'_>) -> Result<u8, Refusal>
+    ensures value { λ r. ⌜ r ≡ head-of (now (fields .entry) .at) (due-at 1 (now (now (fields .entry) .holder)) (now (fields .entry) .at)) ⌝ }
+    ensures holder { λ _. ⌜ now (now (fields .exit) .holder) ≡ now (now (fields .entry) .holder) ⌝ }
+    ensures at { λ r. ⌜ made r (λ n. now (fields .exit) .at ≡ now (fields .entry) .at + 5) ⌝ }
+{
+    let at = fields.place();
+    match fields.due(Part::HEAD) {
+        Ok(c) => {
+            if c.len() == 2 && c[0] == 1 && c[1] >= 1 && c[1] <= 32 {
+                Ok(c[1])
+            } else {
+                Err(Refusal::BadSize(at))
+            }
+        }
+        Err(e) => Err(Refusal::BadField(e.place)),
+    }
+}
+
+// The entries: how many threads there are.
+fn read_entries(fields: &mut Fields<'_>, methods: u8) -> Result<usize, Refusal>
+    ensures value { λ r. ⌜ r ≡ entries-of methods (now (fields .entry) .at) (due-at 2 (now (now (fields .entry) .holder)) (now (fields .entry) .at)) ⌝ }
+    ensures holder { λ _. ⌜ now (now (fields .exit) .holder) ≡ now (now (fields .entry) .holder) ⌝ }
+    ensures at { λ r. ⌜ made r (λ t. now (fields .exit) .at ≡ now (fields .entry) .at + (3 + t)) ⌝ }
+{
+    let at = fields.place();
+    match fields.due(Part::ENTRIES) {
+        Ok(c) => {
+            if c.len() >= 1 && c.len() <= 8 && all_below(c, methods) {
+                Ok(c.len())
+            } else {
+                Err(Refusal::BadSize(at))
+            }
+        }
+        Err(e) => Err(Refusal::BadField(e.place)),
+    }
+}
+
+// The start values: how many cells have one.
+fn read_cells(fields: &mut Fields<'_>) -> Result<usize, Refusal>
+    ensures value { λ r. ⌜ r ≡ cells-of (now (fields .entry) .at) (due-at 3 (now (now (fields .entry) .holder)) (now (fields .entry) .at)) ⌝ }
+    ensures holder { λ _. ⌜ now (now (fields .exit) .holder) ≡ now (now (fields .entry) .holder) ⌝ }
+    ensures at { λ r. ⌜ made r (λ s. now (fields .exit) .at ≡ now (fields .entry) .at + (3 + 4 * s)) ⌝ }
+{
+    let at = fields.place();
+    match fields.due(Part::CELLS) {
+        Ok(c) => {
+            if c.len() % 4 == 0 && c.len() / 4 <= 32 {
+                Ok(c.len() / 4)
+            } else {
+                Err(Refusal::BadSize(at))
+            }
+        }
+        Err(e) => Err(Refusal::BadField(e.place)),
+    }
+}
+
+// One method's code, by its size.
+fn read_method(fields: &mut Fields<'_>) -> Result<(), Refusal>
+    ensures value { λ r. ⌜ r ≡ method-of (now (fields .entry) .at) (due-at 4 (now (now (fields .entry) .holder)) (now (fields .entry) .at)) ⌝ }
+    ensures holder { λ _. ⌜ now (now (fields .exit) .holder) ≡ now (now (fields .entry) .holder) ⌝ }
+    ensures at { λ _. ⌜ now (fields .exit) .at ≡ behind (now (fields .entry) .at) (standing (now (now (fields .entry) .holder)) (now (fields .entry) .at)) ⌝ }
+{
+    let at = fields.place();
+    match fields.due(Part::METHOD) {
+        Ok(c) => {
+            if c.len() % 4 == 0 && c.len() / 4 >= 1 && c.len() / 4 <= 4096 {
+                Ok(())
+            } else {
+                Err(Refusal::BadSize(at))
+            }
+        }
+        Err(e) => Err(Refusal::BadField(e.place)),
+    }
+}
+
+// The places of the methods, and nothing behind them.
+fn read_places(fields: &mut Fields<'_>, methods: u8) -> Result<[usize; 32], Refusal>
+    requires { ⌜ methods ≤ 32 ⌝ }
+    ensures value { λ r. ⌜ places-in methods r ≡ places-from methods (now (now (fields .entry) .holder)) (now (fields .entry) .at) ⌝ }
+    ensures inside { λ r. ⌜ made r (λ ps. (length ps ≡ 32) × ((m : ℕ) → m < methods → getD ps m 0 < length (now (now (fields .entry) .holder)))) ⌝ }
+{
+    let mut places = [0usize; 32];
+    for m in 0..methods as usize {
+        places[m] = fields.place();
+        read_method(fields)?;
+    }
+    if !fields.ended() {
+        return Err(Refusal::BadField(fields.place()));
+    }
+    Ok(places)
+}
+
+// One instruction of a method's code, whose row is known.
+fn judge_by(e: &Entry, x: u8, y: u16, index: u16, size: u16, methods: u8, place: usize) -> Result<(), Refusal>
+    ensures { λ r. ⌜ r ≡ row-judged methods size index place x y (Some (row (now (e .entry)))) ⌝ }
+{
+    if !e.fits(x, y, methods) {
+        return Err(Refusal::BadInstruction(place));
+    }
+    if !e.lands(y, index, size) {
+        return Err(Refusal::BadLanding(place));
+    }
+    Ok(())
+}
+
+// One instruction of a method's code, at its index and place.
+fn judge(code: &[u8], index: u16, size: u16, methods: u8, place: usize) -> Result<(), Refusal>
+    requires { ⌜ 4 * index + 4 ≤ length (now code) ⌝ }
+    ensures { λ r. ⌜ r ≡ passed (landed size index place (decode methods (quad-at (now (code .entry)) (4 * index)))) (Ok tt) ⌝ }
+{
+    let at = 4 * index as usize;
+    let y = code[at + 2] as u16 * 256 + code[at + 3] as u16;
+    match look_up(code[at]) {
+        Some(e) => judge_by(&e, code[at + 1], y, index, size, methods, place),
+        None => Err(Refusal::BadInstruction(place)),
+    }
+}
+
+// The instructions of a method, whose code stands at a place.
+fn judge_code(code: &[u8], methods: u8, place: usize) -> Result<(), Refusal>
+    requires size { ⌜ length (now code) ≤ 65535 ⌝ }
+    requires place { ⌜ place < 65539 ⌝ }
+    ensures { λ r. ⌜ r ≡ judged methods (length (quads (now (code .entry)))) 0 place (quads (now (code .entry))) ⌝ }
+{
+    let size = (code.len() / 4) as u16;
+    for index in 0..size {
+        judge(code, index, size, methods, place + 4 * index as usize)?;
+    }
+    Ok(())
+}
+
+// A byte of a file, 0 past its end.
+fn byte_at(file: &[u8], p: usize, k: usize) -> u8
+    ensures { λ r. ⌜ r ≡ getD (now (file .entry)) (p + k) 0 ⌝ }
+{
+    if p >= file.len() {
+        return 0;
+    }
+    if k >= file.len() - p {
+        return 0;
+    }
+    file[p + k]
+}
+
+// A part of a file from a place on, as far as there is any.
+fn part_of<'a>(file: &'a [u8], from: usize, n: usize) -> &'a [u8]
+    ensures { λ r. ⌜ now r ≡ take n (drop from (now (file .entry))) ⌝ }
+{
+    let start = from.min(file.len());
+    let count = n.min(file.len() - start);
+    &file[start..start + count]
+}
+
+// The contents of the field at a place, as that part of the file.
+fn contents_of<'a>(file: &'a [u8], p: usize) -> &'a [u8]
+    ensures value { λ r. ⌜ now r ≡ contents-at (now (file .entry)) p ⌝ }
+    ensures size { λ r. ⌜ length (now r) ≤ 65535 ⌝ }
+{
+    let n = byte_at(file, p, 1) as usize * 256 + byte_at(file, p, 2) as usize;
+    part_of(file, p.saturating_add(3), n)
+}
+
+// The instructions of all methods.
+fn judge_codes(file: &[u8], methods: u8, places: &[usize; 32]) -> Result<(), Refusal>
+    requires few { ⌜ methods ≤ 32 ⌝ }
+    requires inside { ⌜ ((m : ℕ) → m < methods → getD (now places) m 0 < 65536) ⌝ }
+    ensures { λ r. ⌜ r ≡ codes-judged methods (now (file .entry)) (take methods (now (places .entry))) ⌝ }
+{
+    for m in 0..methods as usize {
+        let p = places[m];
+        judge_code(contents_of(file, p), methods, p + 3)?;
+    }
+    Ok(())
+}
+
+// The parts of a file, its fields and its instructions judged.
+fn read_layout(file: &[u8]) -> Result<Layout, Refusal>
+    ensures { λ r. ⌜ found-in r ≡ staged (now (file .entry)) ⌝ }
+{
+    if file.len() > 65535 {
+        return Err(Refusal::BadField(0));
+    }
+    let mut fields = Fields::new(file, 0);
+    let methods = read_head(&mut fields)?;
+    let threads = read_entries(&mut fields, methods)?;
+    let cells = read_cells(&mut fields)?;
+    let places = read_places(&mut fields, methods)?;
+    judge_codes(file, methods, &places)?;
+    Ok(Layout {
+        threads,
+        cells,
+        methods,
+        places,
+    })
+}
