@@ -2,3 +2,5 @@
 pub mod Frames
 -- threads
 pub mod Rows
+-- the instruction at an index
+pub mod Fetching

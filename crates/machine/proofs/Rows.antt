@@ -1,6 +1,6 @@
 -- Threads in the list of them, and the machine after a step of one.
 use mathlib.Core.Path.{_≡_, refl, sym, ap, _∙_}
-use mathlib.Core.Bool.{true, false}
+use mathlib.Core.Bool.{Bool, true, false, cond}
 use mathlib.Core.List.{List, [], _∷_, _++_, map}
 use Prim.Native.Nat.{ℕ, zero, suc, _+_, _-_, _<_, _≤_, min}
 use native.Mathlib.Omega.{arith}
@@ -8,7 +8,12 @@ use lib.IntN.{ℤ, pos}
 use lib.ListN.{length, getD, set, take, drop}
 use Rattle.std.specs.declared.option.Option.{Option}
 use Rattle.std.specs.declared.option.Option.the-variants.{Some, None}
-use Rattle.std.specs.declared.result.Result.the-variants.{Ok}
+use Rattle.std.specs.declared.result.Result.{Result}
+use Rattle.std.specs.declared.result.Result.the-variants.{Ok, Err}
+use Rattle.model.specs.declared.Refusal.{Refusal}
+use Rattle.machine.specs.declared.threads.Stand.{Stand}
+use lib.Dec.{ltb}
+use Rattle.std.specs.Vec.{made}
 use Rattle.model.specs.Policy.{Turn}
 use Rattle.model.specs.Machine as model
 use Rattle.model.specs.Machine.{holds, lock-step, unlock-step, test-step, own-step, onward, with-status, with-top, goto, reg}
@@ -18,7 +23,7 @@ use Rattle.model.specs.declared.Reason.{Reason}
 use Rattle.model.specs.declared.Status.{Status}
 use Rattle.machine.specs.declared.threads.Thread.{Thread}
 use Rattle.machine.specs.declared.states.State.{State}
-use Rattle.machine.specs.Views.{no-thread, thread-of, threads-of, machine-of, stored, said, passes, cells-after, scratch-after}
+use Rattle.machine.specs.Views.{no-thread, thread-of, threads-of, machine-of, stored, said, passes, cells-after, scratch-after, admitted, ready-by, ready-of, awaiting-by, awaiting-of, going-on, resumed}
 
 -- thread t of the first n
 pub thread-at : (n t : ℕ) (us : List Thread) → t < n → t < length us → getD (threads-of n us) t (model.new-thread 0) ≡ thread-of (getD us t no-thread)
@@ -26,6 +31,12 @@ thread-at zero t us h l = absurd (omega arith)
 thread-at (suc n) t [] h l = absurd (omega arith)
 thread-at (suc n) zero (u ∷ us) h l = refl
 thread-at (suc n) (suc t) (u ∷ us) h l = thread-at n t us (omega arith) (omega arith)
+
+-- how many threads there are
+pub threads-many : (n : ℕ) (us : List Thread) → length (threads-of n us) ≡ min n (length us)
+threads-many zero us = sym (omega arith)
+threads-many (suc n) [] = sym (omega arith)
+threads-many (suc n) (u ∷ us) = let h = threads-many n us in omega arith
 
 -- another thread in the place of thread t
 pub thread-put : (n t : ℕ) (us : List Thread) (u : Thread) → threads-of n (set us t u) ≡ set (threads-of n us) t (thread-of u)
@@ -57,6 +68,17 @@ Copied r a = set (set (set (set a 0 (getD r 0 (pos 0))) 1 (getD r 1 (pos 0))) 2 
 
 pub copied : (r a : List ℤ) → length r ≡ 4 → length a ≡ 5 → Copied r a
 copied r a l k = four (λ r. Copied r a) (λ q s t u. five (Copied (q ∷ s ∷ t ∷ u ∷ [])) (λ b c d e f. refl) a k) r l
+
+-- what holds of the value in an Ok
+pub made-to : {X E : Type 0} (P Q : X → Type 0) (r : Result X E) → ((x : X) → P x → Q x) → made r P → made r Q
+made-to P Q (Ok x) f h = f x h
+made-to P Q (Err e) f h = tt
+
+-- what is admitted goes on
+goes : {X : Type 0} (b h : Bool) (r : Result X Refusal) → _≡_ {A = Result (Unit {0}) Refusal} (Ok tt) (admitted b h (Ok tt)) → r ≡ admitted b h r
+goes true true r e = absurd (let z : _≡_ {A = ℕ} 0 1 = cc in omega arith)
+goes true false r e = refl
+goes false h r e = absurd (let z : _≡_ {A = ℕ} 0 1 = cc in omega arith)
 
 module _ (m : State) (t : ℕ) (there : t < m .count) (room : t < length (m .threads)) where
   abbrev now-thread : model.Thread
@@ -112,3 +134,24 @@ module _ (m : State) (t : ℕ) (there : t < m .count) (room : t < length (m .thr
       let p = placed u (with-top now-thread (goto (now-thread .top) (now-thread .top .index + 1 + k))) (rw (at, ← z) h) in
       (refl, λ i. record { threads = p i; shared = m .shared; cells = f i; scratch = g i; args = m .args; holder = m .holder; halted = m .halted })
   tested u n s c Turn.halts e f g h = absurd (let z : _≡_ {A = ℕ} 0 1 = cc in omega arith)
+
+  abbrev Admitted : Type 0
+  Admitted = _≡_ {A = Result (Unit {0}) Refusal} (Ok tt) (admitted (ltb t (length (machine-of m .threads))) (m .halted) (Ok tt))
+
+  pub ready-at : (r : Result Stand Refusal) → r ≡ ready-by (thread-of (stored m t)) (stored m t .status) → Admitted → r ≡ ready-of (machine-of m) t
+  ready-at r h a = h ∙ sym (ap (λ (u : model.Thread). ready-by u (u .status)) at) ∙ goes (ltb t (length (machine-of m .threads))) (m .halted) _ a
+
+  pub awaiting-at : (r : Result Stand Refusal) → r ≡ awaiting-by (thread-of (stored m t)) (stored m t .status) → Admitted → r ≡ awaiting-of (machine-of m) t
+  awaiting-at r h a = h ∙ sym (ap (λ (u : model.Thread). awaiting-by u (u .status)) at) ∙ goes (ltb t (length (machine-of m .threads))) (m .halted) _ a
+
+  pub resumed-held : (u : Thread) (i : ℕ) (v w : ℤ) → w ≡ v → thread-of u ≡ going-on (thread-of (stored m t)) i w → holds (m .holder) t ≡ true →
+      machine-of (record { threads = set (m .threads) t u; count = m .count; shared = m .shared; cells = m .cells; scratch = m .scratch; args = set (m .args) 4 w; holder = m .holder; halted = m .halted }) ≡
+      resumed (machine-of m) t i v
+  resumed-held u i v w e h b =
+      let p = placed u (going-on now-thread i v) (h ∙ ap (going-on (thread-of (stored m t)) i) e ∙ sym (ap (λ (x : model.Thread). going-on x i v) at)) in
+      rw (b, e) (λ i. record { threads = p i; shared = m .shared; cells = m .cells; scratch = m .scratch; args = set (m .args) 4 v; holder = m .holder; halted = m .halted })
+
+  pub resumed-free : (u : Thread) (i : ℕ) (v w : ℤ) → w ≡ v → thread-of u ≡ going-on (thread-of (stored m t)) i w → holds (m .holder) t ≡ false → machine-of (with-stored u) ≡ resumed (machine-of m) t i v
+  resumed-free u i v w e h b =
+      let p = placed u (going-on now-thread i v) (h ∙ ap (going-on (thread-of (stored m t)) i) e ∙ sym (ap (λ (x : model.Thread). going-on x i v) at)) in
+      rw b (λ i. record { threads = p i; shared = m .shared; cells = m .cells; scratch = m .scratch; args = m .args; holder = m .holder; halted = m .halted })

@@ -1,9 +1,11 @@
 -- What the stored machine means, in the model's terms.
 use mathlib.Core.Path.{_≡_}
+use mathlib.Core.Bool.{Bool, true, false, cond}
 use mathlib.Core.List.{List, [], _∷_, map}
 use Prim.Native.Nat.{ℕ, zero, suc, min, _<_}
+use lib.Dec.{ltb}
 use lib.IntN.{ℤ}
-use lib.ListN.{getD, take}
+use lib.ListN.{length, getD, set, take}
 use Rattle.std.specs.declared.option.Option.{Option}
 use Rattle.std.specs.declared.option.Option.the-variants.{Some, None}
 use Rattle.std.specs.declared.result.Result.{Result}
@@ -11,10 +13,12 @@ use Rattle.std.specs.declared.result.Result.the-variants.{Ok, Err}
 use Rattle.model.specs.Policy.{Turn}
 use Rattle.model.specs.declared.Outcome.{Outcome}
 use Rattle.model.specs.declared.Refusal.{Refusal}
+use Rattle.model.specs.declared.Refusal.the-variants.{NoThread, MachineStopped, StillAwaiting, NotAwaiting, ThreadEnded}
 use Rattle.model.specs.Machine as model
 use Rattle.model.specs.declared.Status.{Status}
 use Rattle.machine.specs.declared.threads.Frame.{Frame}
 use Rattle.machine.specs.declared.threads.Thread.{Thread}
+use Rattle.machine.specs.declared.threads.Stand.{Stand}
 use Rattle.machine.specs.declared.states.State.{State}
 
 -- how many instructions a test passes over; none if it stops the machine
@@ -92,9 +96,51 @@ said (model.Stepped.refused r) = Err r
 abbrev pub stored : State → ℕ → Thread
 stored m t = getD (m .threads) t no-thread
 
--- thread t can run an instruction: there is one, it is ready, and its index is one of a method's
+-- thread t is there and ready
+pub record Ready (m : State) (t : ℕ) : Type 0 where
+  pub room : t < 8
+  pub there : t < m .count
+  pub ready : stored m t .status ≡ Status.Ready
+
+-- and its index is one of a method's
 pub record Steps (m : State) (t : ℕ) : Type 0 where
   pub room : t < 8
   pub there : t < m .count
   pub ready : stored m t .status ≡ Status.Ready
   pub low : stored m t .top .index < 65536
+
+-- of a thread that there is, on a machine that has not stopped
+abbrev pub admitted : {X : Type 0} → Bool → Bool → Result X Refusal → Result X Refusal
+admitted false h r = Err NoThread
+admitted true true r = Err MachineStopped
+admitted true false r = r
+
+-- where a thread stands
+abbrev pub stand-of : model.Thread → Stand
+stand-of u = record { method = u .top .method; index = u .top .index }
+
+-- a thread that can be stepped
+abbrev pub ready-by : model.Thread → Status → Result Stand Refusal
+ready-by u Status.Ready = Ok (stand-of u)
+ready-by u Status.Awaiting = Err StillAwaiting
+ready-by u Status.Ended = Err ThreadEnded
+
+abbrev pub ready-of : model.Machine → ℕ → Result Stand Refusal
+ready-of m t = admitted (ltb t (length (m .threads))) (m .halted) (ready-by (model.thread m t) (model.thread m t .status))
+
+-- a thread that awaits an answer
+abbrev pub awaiting-by : model.Thread → Status → Result Stand Refusal
+awaiting-by u Status.Ready = Err NotAwaiting
+awaiting-by u Status.Awaiting = Ok (stand-of u)
+awaiting-by u Status.Ended = Err NotAwaiting
+
+abbrev pub awaiting-of : model.Machine → ℕ → Result Stand Refusal
+awaiting-of m t = admitted (ltb t (length (m .threads))) (m .halted) (awaiting-by (model.thread m t) (model.thread m t .status))
+
+-- a thread that goes on at an index with v in r0
+abbrev pub going-on : model.Thread → ℕ → ℤ → model.Thread
+going-on u i v = record { status = Status.Ready; top = record { method = u .top .method; index = i; regs = set (u .top .regs) 0 v }; callers = u .callers }
+
+-- thread t goes on with its answer
+abbrev pub resumed : model.Machine → ℕ → ℕ → ℤ → model.Machine
+resumed m t i v = model.with-args (model.with-thread m t (going-on (model.thread m t) i v)) (cond (model.holds (m .holder) t) (set (m .args) 4 v) (m .args))

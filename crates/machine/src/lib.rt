@@ -1,4 +1,5 @@
 // The machine that runs applets: load, step, answer.
+mod code;
 mod numbers;
 mod states;
 mod threads;

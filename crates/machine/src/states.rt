@@ -2,6 +2,8 @@
 ghost use mathlib.Core.Path.{_≡_};
 ghost use Prim.Native.Nat.{ℕ, _+_, _≤_, _<_};
 ghost use mathlib.Core.List.{_++_};
+ghost use lib.Dec.{ltb};
+ghost use Rattle.std.specs.Vec.{made};
 ghost use lib.ListN.{length, getD, set, drop};
 ghost use Rattle.model.specs.declared.Status.the-variants.{Ready as IsReady};
 ghost use Rattle.model.specs.Machine.{run-instr, thread as nth-thread, lock-step, unlock-step, holds, test-step, own-step, local};
@@ -9,7 +11,8 @@ ghost use Rattle.model.specs.Policy.{turn as turning};
 ghost use Rattle.model.specs.Runs.{after};
 ghost use Rattle.std.specs.declared.result.Result.the-variants.{Ok};
 ghost use Rattle.machine.specs.Ranges.{OwnValid, TestValid, Valid};
-ghost use Rattle.machine.specs.Views.{machine-of, said, Steps};
+ghost use Rattle.machine.specs.Views.{machine-of, said, admitted, stored, Ready, Steps, ready-of, awaiting-of, resumed};
+use crate::threads::Stand;
 use crate::threads::Thread;
 use crate::turns::turn;
 use model::Instr;
@@ -122,6 +125,72 @@ impl State {
             Instr::Lock(_) => self.lock(t),
             Instr::Unlock => Ok(self.unlock(t)),
             Instr::Test(i) => Ok(self.run_test(t, i)),
+        }
+    }
+
+    // What stands past the end of a method's code: the thread ends.
+    pub fn end(&mut self, t: u8) -> Outcome
+        requires { ⌜ Ready (now self) t ⌝ }
+        ensures value { λ r. ⌜ r ≡ Outcome.Ended Reason.Finished ⌝ }
+        ensures after { λ _. ⌜ machine-of (now (self .exit)) ≡ after (machine-of (now (self .entry))) (run-instr (Instr.Own Own.End) (machine-of (now (self .entry))) t (nth-thread (machine-of (now (self .entry))) t)) ⌝ }
+    {
+        self.threads[t as usize].end();
+        Outcome::Ended(Reason::Finished)
+    }
+
+    // How many threads there are.
+    pub fn many(&self) -> u8
+        ensures value { λ r. ⌜ r ≡ length (machine-of (now (self .entry)) .threads) ⌝ }
+        ensures few { λ r. ⌜ (r ≤ 8) × (r ≤ now (self .entry) .count) ⌝ }
+    {
+        let all = &self.threads[..];
+        if (self.count as usize) < all.len() {
+            self.count
+        } else {
+            8
+        }
+    }
+
+    // Only a thread that there is, on a machine that has not stopped.
+    fn admit(&self, t: u8) -> Result<(), Refusal>
+        ensures value { λ r. ⌜ r ≡ admitted (ltb t (length (machine-of (now (self .entry)) .threads))) (now (self .entry) .halted) (Ok tt) ⌝ }
+        ensures there { λ r. ⌜ made r (λ _. (t < 8) × (t < now (self .entry) .count)) ⌝ }
+    {
+        if t >= self.many() {
+            return Err(Refusal::NoThread);
+        }
+        if self.halted {
+            return Err(Refusal::MachineStopped);
+        }
+        Ok(())
+    }
+
+    // Where a thread stands that can be stepped.
+    pub fn ready(&self, t: u8) -> Result<Stand, Refusal>
+        ensures value { λ r. ⌜ r ≡ ready-of (machine-of (now (self .entry))) t ⌝ }
+        ensures there { λ r. ⌜ made r (λ s. Ready (now (self .entry)) t × (s .method ≡ stored (now (self .entry)) t .top .method) × (s .index ≡ stored (now (self .entry)) t .top .index)) ⌝ }
+    {
+        self.admit(t)?;
+        self.threads[t as usize].ready()
+    }
+
+    // Where a thread stands that awaits an answer.
+    pub fn awaiting(&self, t: u8) -> Result<Stand, Refusal>
+        ensures value { λ r. ⌜ r ≡ awaiting-of (machine-of (now (self .entry))) t ⌝ }
+        ensures there { λ r. ⌜ made r (λ s. (t < 8) × (t < now (self .entry) .count) × (s .index < 65536)) ⌝ }
+    {
+        self.admit(t)?;
+        self.threads[t as usize].awaiting()
+    }
+
+    // Thread t goes on at an index with its answer in r0, and in a4 if it holds the lock.
+    pub fn resume(&mut self, t: u8, index: u32, v: i32)
+        requires { ⌜ (t < 8) × (t < now self .count) ⌝ }
+        ensures { λ _. ⌜ machine-of (now (self .exit)) ≡ resumed (machine-of (now (self .entry))) t index v ⌝ }
+    {
+        self.threads[t as usize].resume(index, v);
+        if self.holds(t) {
+            self.args[4] = v;
         }
     }
 }

@@ -4,16 +4,18 @@ ghost use mathlib.Core.List.{List, _++_};
 ghost use Prim.Native.Nat.{ℕ, _+_, _≤_, _<_, min};
 ghost use lib.ListN.{length, getD, set, take};
 ghost use lib.IntN.{ℤ, pos};
+ghost use Rattle.std.specs.Vec.{made};
 ghost use Rattle.model.specs.declared.Status.the-variants.{Ready as IsReady, Awaiting as IsAwaiting, Ended as IsEnded};
 ghost use Rattle.model.specs.Machine.{reg as reg-of, goto as going, write as writing, with-top, with-status, onward, enter as entered, zeros, local};
 ghost use Rattle.machine.specs.Ranges.{OwnValid};
-ghost use Rattle.machine.specs.Views.{waiting, thread-of};
+ghost use Rattle.machine.specs.Views.{waiting, thread-of, ready-by, awaiting-by, going-on};
 use crate::numbers::add;
 use crate::numbers::flag;
 use crate::numbers::sub;
 use model::Outcome;
 use model::Own;
 use model::Reason;
+use model::Refusal;
 use model::Status;
 
 // A call of a method: where it stands, and its registers.
@@ -34,14 +36,67 @@ pub struct Thread {
     pub callers: [Frame; 15],
 }
 
-// The index behind that of a frame that waits, which is at most 65,535.
+// The index of a frame that waits, which is at most 65,535.
+fn rest(index: u32) -> u32
+    ensures { λ r. ⌜ r ≡ waiting index ⌝ }
+{
+    if index < 65536 { index } else { 65535 }
+}
+
+// The index behind it.
 fn behind(index: u32) -> u32
     ensures { λ r. ⌜ r ≡ waiting index + 1 ⌝ }
 {
-    if index < 65536 { index + 1 } else { 65536 }
+    rest(index) + 1
+}
+
+// Where a thread stands.
+#[derive(Clone, Copy)]
+pub struct Stand {
+    pub method: u8,
+    pub index: u32,
 }
 
 impl Thread {
+    // Where it stands, if it can be stepped.
+    pub fn ready(&self) -> Result<Stand, Refusal>
+        ensures value { λ r. ⌜ r ≡ ready-by (thread-of (now (self .entry))) (now (self .entry) .status) ⌝ }
+        ensures ready { λ r. ⌜ made r (λ s. (now (self .entry) .status ≡ IsReady) × (s .method ≡ now (self .entry) .top .method) × (s .index ≡ now (self .entry) .top .index)) ⌝ }
+    {
+        match self.status {
+            Status::Ready => Ok(Stand {
+                method: self.top.method,
+                index: self.top.index,
+            }),
+            Status::Awaiting => Err(Refusal::StillAwaiting),
+            Status::Ended => Err(Refusal::ThreadEnded),
+        }
+    }
+
+    // Where it stands, if it awaits an answer.
+    pub fn awaiting(&self) -> Result<Stand, Refusal>
+        ensures value { λ r. ⌜ r ≡ awaiting-by (thread-of (now (self .entry))) (now (self .entry) .status) ⌝ }
+        ensures low { λ r. ⌜ made r (λ s. s .index < 65536) ⌝ }
+    {
+        match self.status {
+            Status::Awaiting => Ok(Stand {
+                method: self.top.method,
+                index: rest(self.top.index),
+            }),
+            Status::Ready => Err(Refusal::NotAwaiting),
+            Status::Ended => Err(Refusal::NotAwaiting),
+        }
+    }
+
+    // Goes on at an index, with a number in r0.
+    pub fn resume(&mut self, index: u32, v: i32)
+        ensures { λ _. ⌜ thread-of (now (self .exit)) ≡ going-on (thread-of (now (self .entry))) index v ⌝ }
+    {
+        self.status = Status::Ready;
+        self.top.index = index;
+        self.top.regs[0] = v;
+    }
+
     // How many frames lie below the topmost one.
     pub fn below(&self) -> u8
         ensures { λ r. ⌜ r ≡ min (now (self .entry) .depth) 15 ⌝ }
