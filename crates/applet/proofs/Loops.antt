@@ -183,14 +183,12 @@ part-is f from n start count s c = by (leb from (length f)) refl
   where
     l : length (drop start f) ≡ length f - start
     l = length-drop start f
-
     cut : (m : ℕ) (xs : List ℕ) → take (min m (length xs)) xs ≡ take m xs
     cut m xs = by-le (leb m (length xs)) refl
       where
         by-le : (b : Bool) → leb m (length xs) ≡ b → take (min m (length xs)) xs ≡ take m xs
         by-le true t = let h = leb-true m (length xs) t in let e : min m (length xs) ≡ m = omega arith in rw e
         by-le false t = let h = leb-false m (length xs) t in let e : min m (length xs) ≡ length xs = omega arith in rw e (take-all (length xs) xs (omega arith) ∙ sym (take-all m xs (omega arith)))
-
     by : (b : Bool) → leb from (length f) ≡ b → take count (drop start f) ≡ take n (drop from f)
     by true t = let h = leb-true from (length f) t in let e : start ≡ from = omega arith in
         let k : count ≡ min n (length (drop start f)) = rw l c in rw k (cut n (drop start f) ∙ ap (λ z. take n (drop z f)) e)

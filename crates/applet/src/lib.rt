@@ -4,8 +4,6 @@ mod rows;
 mod table;
 mod words;
 
-pub use reader::Applet;
-pub use reader::Layout;
 pub use rows::Fault;
 pub use rows::Field;
 pub use rows::Fields;
@@ -18,3 +16,5 @@ pub use words::Word;
 pub use words::decode;
 pub use words::encode;
 pub use words::operator_number;
+pub use reader::Applet;
+pub use reader::Layout;

@@ -141,15 +141,7 @@ fn read_places(fields: &mut Fields<'_>, methods: u8) -> Result<[usize; 32], Refu
 }
 
 // One instruction of a method's code, whose row is known.
-fn judge_by(
-    e: &Entry,
-    x: u8,
-    y: u16,
-    index: u16,
-    size: u16,
-    methods: u8,
-    place: usize,
-) -> Result<(), Refusal>
+fn judge_by(e: &Entry, x: u8, y: u16, index: u16, size: u16, methods: u8, place: usize) -> Result<(), Refusal>
     ensures { λ r. ⌜ r ≡ row-judged methods size index place x y (Some (row (now (e .entry)))) ⌝ }
 {
     if !e.fits(x, y, methods) {

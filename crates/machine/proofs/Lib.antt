@@ -4,3 +4,5 @@ pub mod Frames
 pub mod Rows
 -- the instruction at an index
 pub mod Fetching
+-- threads that were just started
+pub mod Started

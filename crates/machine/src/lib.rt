@@ -1,5 +1,6 @@
 // The machine that runs applets: load, step, answer.
 mod code;
+mod fresh;
 mod numbers;
 mod states;
 mod threads;
