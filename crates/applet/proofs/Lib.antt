@@ -4,3 +4,6 @@ pub mod Opcodes
 pub mod Decoding
 -- the loops of the reader
 pub mod Loops
+-- the reading of an applet, place by place, is the model's
+pub mod Expected
+pub mod Staging

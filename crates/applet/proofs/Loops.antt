@@ -1,7 +1,7 @@
 -- What the reader's loops keep, over plain lists.
 use mathlib.Core.Path.{_≡_, refl, sym, ap, ap₂, _∙_}
 use mathlib.Core.Bool.{Bool, true, false, cond, _&&_}
-use mathlib.Core.List.{List, [], _∷_, _++_, append-assoc, append-nil}
+use mathlib.Core.List.{List, [], _∷_, _++_, map, append-assoc, append-nil}
 use Prim.Native.Nat.{ℕ, zero, suc, _+_, _-_, _*_, _/_, _%_, _<_, _≤_, min}
 use native.Mathlib.Nat.{suc-add}
 use native.Mathlib.Numerals.{add-one}
@@ -14,6 +14,7 @@ use borrow.Author.Count.{below-more}
 use Rattle.std.proofs.shelf.Lists.{at-drop-more, at-drop-all, drop-all}
 use Rattle.std.proofs.shelf.Tests.{lt-ltb, le-ltb, leb-true, leb-false}
 use Rattle.std.proofs.shelf.Ways.{tells}
+use Rattle.std.specs.declared.option.Option.the-variants.{Some, None}
 use Rattle.std.specs.declared.result.Result.the-variants.{Ok, Err}
 use Rattle.model.specs.declared.Refusal.{Refusal}
 use Rattle.model.specs.declared.Refusal.the-variants.{BadField}
@@ -22,6 +23,7 @@ use Rattle.model.specs.declared.Instr.{Instr}
 use Rattle.model.specs.Words.{Quad, quads, quad-at, decode}
 use Rattle.model.specs.Reading.{landed}
 use Rattle.model.proofs.Accepted.{err-ok}
+use Rattle.applet.specs.Applets.{nth}
 use Rattle.applet.specs.Stages.{gathered, places-from, one-more, method-of, due-at, ended, passed, judged, code-judged, codes-judged, both-pass}
 
 -- all bytes below n: the test goes on, stops, or has ended
@@ -177,23 +179,31 @@ module _ (n : ℕ) (f ps : List ℕ) (i : ℕ) where
   pub codes-end : length ps ≤ i → codes-judged n f (drop i ps) ≡ codes-judged n f ps → Ok tt ≡ codes-judged n f ps
   codes-end h s = sym (at-drop-all (codes-judged n f) ps i h) ∙ s
 
+-- no more can be taken than there is
+pub take-min : (m : ℕ) (xs : List ℕ) → take (min m (length xs)) xs ≡ take m xs
+take-min m xs = by (leb m (length xs)) refl
+  where
+    by : (b : Bool) → leb m (length xs) ≡ b → take (min m (length xs)) xs ≡ take m xs
+    by true t = let h = leb-true m (length xs) t in let e : min m (length xs) ≡ m = omega arith in rw e
+    by false t =
+        let h = leb-false m (length xs) t in
+        let e : min m (length xs) ≡ length xs = omega arith in
+        rw e (take-all (length xs) xs (omega arith) ∙ sym (take-all m xs (omega arith)))
+
 -- a part of a file, as far as there is any
 pub part-is : (f : List ℕ) (from n start count : ℕ) → start ≡ min from (length f) → count ≡ min n (length f - start) → take count (drop start f) ≡ take n (drop from f)
 part-is f from n start count s c = by (leb from (length f)) refl
   where
-    l : length (drop start f) ≡ length f - start
-    l = length-drop start f
-    cut : (m : ℕ) (xs : List ℕ) → take (min m (length xs)) xs ≡ take m xs
-    cut m xs = by-le (leb m (length xs)) refl
-      where
-        by-le : (b : Bool) → leb m (length xs) ≡ b → take (min m (length xs)) xs ≡ take m xs
-        by-le true t = let h = leb-true m (length xs) t in let e : min m (length xs) ≡ m = omega arith in rw e
-        by-le false t = let h = leb-false m (length xs) t in let e : min m (length xs) ≡ length xs = omega arith in rw e (take-all (length xs) xs (omega arith) ∙ sym (take-all m xs (omega arith)))
     by : (b : Bool) → leb from (length f) ≡ b → take count (drop start f) ≡ take n (drop from f)
-    by true t = let h = leb-true from (length f) t in let e : start ≡ from = omega arith in
-        let k : count ≡ min n (length (drop start f)) = rw l c in rw k (cut n (drop start f) ∙ ap (λ z. take n (drop z f)) e)
-    by false t = let h = leb-false from (length f) t in let e : start ≡ length f = omega arith in
-        let k : count ≡ 0 = omega arith in rw k (sym (ap (take n) (drop-all from f (omega arith)) ∙ take-nil n))
+    by true t =
+        let h = leb-true from (length f) t in
+        let e : start ≡ from = omega arith in
+        let k : count ≡ min n (length (drop start f)) = rw (length-drop start f) c in
+        rw k (take-min n (drop start f) ∙ ap (λ z. take n (drop z f)) e)
+    by false t =
+        let h = leb-false from (length f) t in
+        let k : count ≡ 0 = omega arith in
+        rw k (sym (ap (take n) (drop-all from f (omega arith)) ∙ take-nil n))
 
 -- a place that is cut at the largest number leads as far
 pub drop-cut : (f : List ℕ) (p s top : ℕ) → s ≡ min p top → length f ≤ top → drop s f ≡ drop p f
@@ -205,3 +215,27 @@ drop-cut f p s top e l = by (leb p top) refl
 
 pub length-cut : (n : ℕ) (f : List ℕ) → length (take n f) ≤ n
 length-cut n f = rw length-take (omega arith)
+
+-- an item inside a list, and past it
+pub nth-in : {X : Type 0} (xs : List X) (i : ℕ) (d : X) → i < length xs → nth xs i ≡ Some (getD xs i d)
+nth-in [] i d h = absurd (omega arith)
+nth-in (x ∷ xs) zero d h = refl
+nth-in (x ∷ xs) (suc i) d h = nth-in xs i d (omega arith)
+
+pub nth-past : {X : Type 0} (xs : List X) (i : ℕ) → length xs ≤ i → nth xs i ≡ None
+nth-past [] i h = refl
+nth-past (x ∷ xs) zero h = absurd (omega arith)
+nth-past (x ∷ xs) (suc i) h = nth-past xs i (omega arith)
+
+-- a group of four by its index
+pub nth-quads : {X : Type 0} (g : Quad → X) (xs : List ℕ) (i : ℕ) → 4 * i + 4 ≤ length xs → nth (map g (quads xs)) i ≡ Some (g (quad-at xs (4 * i)))
+nth-quads g [] i h = absurd (omega arith)
+nth-quads g (a ∷ []) i h = absurd (omega arith)
+nth-quads g (a ∷ (b ∷ [])) i h = absurd (omega arith)
+nth-quads g (a ∷ (b ∷ (c ∷ []))) i h = absurd (omega arith)
+nth-quads g (a ∷ (b ∷ (c ∷ (d ∷ r)))) zero h = refl
+nth-quads g (a ∷ (b ∷ (c ∷ (d ∷ r)))) (suc i) h =
+    let e : 4 * suc i ≡ suc (suc (suc (suc (4 * i)))) = omega arith in
+    nth-quads g r i (omega arith) ∙ ap (λ q. Some (g q))
+    (sym (ap (quad-at (a ∷ (b ∷ (c ∷ (d ∷ r))))) e ∙ quad-shift a (b ∷ c ∷ d ∷ r) (suc (suc (suc (4 * i)))) ∙ quad-shift b (c ∷ d ∷ r) (suc (suc (4 * i))) ∙
+    quad-shift c (d ∷ r) (suc (4 * i)) ∙ quad-shift d r (4 * i)))

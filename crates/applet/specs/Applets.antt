@@ -1,6 +1,7 @@
 -- An applet that was read, as the model has it.
 use mathlib.Core.List.{List, [], _∷_, map}
-use Prim.Native.Nat.{ℕ, zero, suc, _+_, _*_}
+use mathlib.Core.Path.{_≡_}
+use Prim.Native.Nat.{ℕ, zero, suc, _+_, _*_, _<_}
 use lib.ListN.{length, take, drop}
 use denote.Ref.{now, RefT}
 use Rattle.std.specs.declared.option.Option.{Option}
@@ -13,6 +14,7 @@ use Rattle.model.specs.declared.Refusal.{Refusal}
 use Rattle.model.specs.Machine as machine
 use Rattle.model.specs.Words.{Quad, quads, signed-of, decode}
 use Rattle.model.specs.Fields.{Read, contents-at}
+use Rattle.model.specs.Reading.{method-place}
 use Rattle.applet.specs.declared.reader.Layout.{Layout}
 use Rattle.applet.specs.declared.reader.Applet.{Applet}
 use Rattle.applet.specs.Stages.{Found}
@@ -62,3 +64,11 @@ abbrev pub nth : {X : Type 0} → List X → ℕ → Option X
 nth [] i = None
 nth (x ∷ xs) zero = Some x
 nth (x ∷ xs) (suc i) = nth xs i
+
+-- the places of the methods
+abbrev pub places-of : Applet → List ℕ
+places-of a = found (a .layout) .places
+
+-- each method stands where the model has it
+abbrev pub Placed : Applet → Type 0
+Placed a = (m : ℕ) → m < length (meant a .methods) → nth (places-of a) m ≡ Some (method-place (meant a) m)

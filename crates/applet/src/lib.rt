@@ -4,6 +4,8 @@ mod rows;
 mod table;
 mod words;
 
+pub use reader::Applet;
+pub use reader::Layout;
 pub use rows::Fault;
 pub use rows::Field;
 pub use rows::Fields;
@@ -16,5 +18,3 @@ pub use words::Word;
 pub use words::decode;
 pub use words::encode;
 pub use words::operator_number;
-pub use reader::Applet;
-pub use reader::Layout;

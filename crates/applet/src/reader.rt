@@ -4,13 +4,14 @@ ghost use Prim.Native.Nat.{ℕ, _+_, _*_, _≤_, _<_, _/_, _%_};
 ghost use lib.Dec.{ltb};
 ghost use lib.ListN.{length, take, drop, getD};
 ghost use Rattle.std.specs.Vec.{made};
+ghost use Rattle.std.specs.Options.{mapped};
 ghost use Rattle.std.specs.declared.option.Option.the-variants.{Some};
 ghost use Rattle.applet.specs.Table.{row};
 ghost use Rattle.std.specs.declared.result.Result.the-variants.{Ok};
-ghost use Rattle.model.specs.Words.{quads, quad-at, decode};
-ghost use Rattle.model.specs.Reading.{landed};
+ghost use Rattle.model.specs.Words.{quads, quad-at, decode, signed-of};
+ghost use Rattle.model.specs.Reading.{landed, read-applet};
 ghost use Rattle.model.specs.Fields.{standing, behind, every, contents-at};
-ghost use Rattle.applet.specs.Applets.{found-in};
+ghost use Rattle.applet.specs.Applets.{found, found-in, meant, read-seen, Placed, nth, places-of, shown};
 ghost use Rattle.applet.specs.Stages.{staged, head-of, entries-of, cells-of, method-of, due-at, places-from, places-in, row-judged, passed, judged, codes-judged};
 use crate::rows::Fields;
 use crate::rows::Part;
@@ -22,8 +23,8 @@ use model::Refusal;
 // place of each method.
 #[derive(Clone, Copy)]
 pub struct Layout {
-    threads: usize,
-    cells: usize,
+    threads: u8,
+    cells: u8,
     methods: u8,
     places: [usize; 32],
 }
@@ -67,7 +68,7 @@ fn read_head(fields: &mut Fields<'_>) -> Result<u8, Refusal>
 }
 
 // The entries: how many threads there are.
-fn read_entries(fields: &mut Fields<'_>, methods: u8) -> Result<usize, Refusal>
+fn read_entries(fields: &mut Fields<'_>, methods: u8) -> Result<u8, Refusal>
     ensures value { λ r. ⌜ r ≡ entries-of methods (now (fields .entry) .at) (due-at 2 (now (now (fields .entry) .holder)) (now (fields .entry) .at)) ⌝ }
     ensures holder { λ _. ⌜ now (now (fields .exit) .holder) ≡ now (now (fields .entry) .holder) ⌝ }
     ensures at { λ r. ⌜ made r (λ t. now (fields .exit) .at ≡ now (fields .entry) .at + (3 + t)) ⌝ }
@@ -76,7 +77,7 @@ fn read_entries(fields: &mut Fields<'_>, methods: u8) -> Result<usize, Refusal>
     match fields.due(Part::ENTRIES) {
         Ok(c) => {
             if c.len() >= 1 && c.len() <= 8 && all_below(c, methods) {
-                Ok(c.len())
+                Ok(c.len() as u8)
             } else {
                 Err(Refusal::BadSize(at))
             }
@@ -86,7 +87,7 @@ fn read_entries(fields: &mut Fields<'_>, methods: u8) -> Result<usize, Refusal>
 }
 
 // The start values: how many cells have one.
-fn read_cells(fields: &mut Fields<'_>) -> Result<usize, Refusal>
+fn read_cells(fields: &mut Fields<'_>) -> Result<u8, Refusal>
     ensures value { λ r. ⌜ r ≡ cells-of (now (fields .entry) .at) (due-at 3 (now (now (fields .entry) .holder)) (now (fields .entry) .at)) ⌝ }
     ensures holder { λ _. ⌜ now (now (fields .exit) .holder) ≡ now (now (fields .entry) .holder) ⌝ }
     ensures at { λ r. ⌜ made r (λ s. now (fields .exit) .at ≡ now (fields .entry) .at + (3 + 4 * s)) ⌝ }
@@ -95,7 +96,7 @@ fn read_cells(fields: &mut Fields<'_>) -> Result<usize, Refusal>
     match fields.due(Part::CELLS) {
         Ok(c) => {
             if c.len() % 4 == 0 && c.len() / 4 <= 32 {
-                Ok(c.len() / 4)
+                Ok((c.len() / 4) as u8)
             } else {
                 Err(Refusal::BadSize(at))
             }
@@ -141,7 +142,15 @@ fn read_places(fields: &mut Fields<'_>, methods: u8) -> Result<[usize; 32], Refu
 }
 
 // One instruction of a method's code, whose row is known.
-fn judge_by(e: &Entry, x: u8, y: u16, index: u16, size: u16, methods: u8, place: usize) -> Result<(), Refusal>
+fn judge_by(
+    e: &Entry,
+    x: u8,
+    y: u16,
+    index: u16,
+    size: u16,
+    methods: u8,
+    place: usize,
+) -> Result<(), Refusal>
     ensures { λ r. ⌜ r ≡ row-judged methods size index place x y (Some (row (now (e .entry)))) ⌝ }
 {
     if !e.fits(x, y, methods) {
@@ -242,4 +251,122 @@ fn read_layout(file: &[u8]) -> Result<Layout, Refusal>
         methods,
         places,
     })
+}
+
+// A signed number of four bytes at a place.
+fn signed_at(bytes: &[u8], at: usize) -> i32
+    requires { ⌜ at + 4 ≤ length (now bytes) ⌝ }
+    ensures { λ r. ⌜ r ≡ signed-of (quad-at (now (bytes .entry)) at) ⌝ }
+{
+    i32::from_be_bytes([bytes[at], bytes[at + 1], bytes[at + 2], bytes[at + 3]])
+}
+
+// How many of the places are in use.
+fn count_of(places: &[usize; 32], methods: u8) -> u8
+    ensures { λ r. ⌜ r ≡ length (take methods (now (places .entry))) ⌝ }
+{
+    methods.min(32)
+}
+
+// One of the places in use.
+fn nth_of(places: &[usize; 32], methods: u8, m: usize) -> Option<usize>
+    ensures { λ r. ⌜ r ≡ nth (take methods (now (places .entry))) m ⌝ }
+{
+    if m < methods.min(32) as usize {
+        Some(places[m])
+    } else {
+        None
+    }
+}
+
+impl Layout {
+    fn count(&self) -> u8
+        ensures { λ r. ⌜ r ≡ length (found (now (self .entry)) .places) ⌝ }
+    {
+        count_of(&self.places, self.methods)
+    }
+
+    fn nth(&self, m: usize) -> Option<usize>
+        ensures { λ r. ⌜ r ≡ nth (found (now (self .entry)) .places) m ⌝ }
+    {
+        nth_of(&self.places, self.methods, m)
+    }
+}
+
+impl<'a> Applet<'a> {
+    // Reads an applet: one pass over the fields, then one over the instructions. What is refused, and
+    // at which place, is the model's.
+    pub fn read(file: &'a [u8]) -> Result<Applet<'a>, Refusal>
+        ensures value { λ r. ⌜ read-seen r ≡ read-applet (now (file .entry)) ⌝ }
+        ensures file { λ r. ⌜ made r (λ a. now (a .file) ≡ now (file .entry)) ⌝ }
+        ensures places { λ r. ⌜ made r Placed ⌝ }
+    {
+        match read_layout(file) {
+            Ok(layout) => Ok(Applet { file, layout }),
+            Err(e) => Err(e),
+        }
+    }
+
+    // The method in which each thread starts, as that part of the file.
+    pub fn entries(&self) -> &'a [u8]
+        ensures { λ r. ⌜ now r ≡ meant (now (self .entry)) .entries ⌝ }
+    {
+        part_of(self.file, 8, self.layout.threads as usize)
+    }
+
+    // The start values in their four bytes each, as that part of the file.
+    fn start_bytes(&self) -> &'a [u8]
+        ensures { λ r. ⌜ now r ≡ take (4 * now (self .entry) .layout .cells) (drop (11 + now (self .entry) .layout .threads) (now (now (self .entry) .file))) ⌝ }
+    {
+        part_of(
+            self.file,
+            11 + self.layout.threads as usize,
+            4 * self.layout.cells as usize,
+        )
+    }
+
+    // How many cells have a start value.
+    pub fn starts(&self) -> usize
+        ensures { λ r. ⌜ r ≡ length (meant (now (self .entry)) .starts) ⌝ }
+    {
+        self.start_bytes().len() / 4
+    }
+
+    // The start value of a cell, if it has one.
+    pub fn start(&self, cell: usize) -> Option<i32>
+        ensures { λ r. ⌜ r ≡ nth (meant (now (self .entry)) .starts) cell ⌝ }
+    {
+        let bytes = self.start_bytes();
+        if cell < bytes.len() / 4 {
+            Some(signed_at(bytes, 4 * cell))
+        } else {
+            None
+        }
+    }
+
+    // How many methods there are.
+    pub fn methods(&self) -> u8
+        ensures { λ r. ⌜ r ≡ length (meant (now (self .entry)) .methods) ⌝ }
+    {
+        let layout = self.layout;
+        layout.count()
+    }
+
+    // The place of a method, if there is one.
+    pub fn place(&self, m: usize) -> Option<usize>
+        ensures { λ r. ⌜ r ≡ nth (places-of (now (self .entry))) m ⌝ }
+    {
+        let layout = self.layout;
+        layout.nth(m)
+    }
+
+    // The code of a method, as that part of the file.
+    pub fn code(&self, m: usize) -> Option<&'a [u8]>
+        ensures { λ r. ⌜ shown r ≡ mapped (contents-at (now (now (self .entry) .file))) (nth (places-of (now (self .entry))) m) ⌝ }
+    {
+        match self.place(m) {
+            Some(p) => Some(contents_of(self.file, p)),
+            None => None,
+        }
+    }
 }

@@ -28,7 +28,7 @@ module _ (c : After-judge-code) where
       ap (λ (xs : List ℕ). judged (c .args .methods) (length (quads xs)) 0 (getD (now (c .args .places)) (c .loop-m .m) 0 + 3) (quads xs)) (c .contents-of .ensures .value))
 
 pub returns-in-Break-judge-code : need.returns-in-Break-judge-code
-returns-in-Break-judge-code c = 
+returns-in-Break-judge-code c =
     let p = err-from-errBy (c .from-residual .result) (c .from-residual .ensures .1) in
     let a = need.at·returns-in-Break-judge-code c .After-judge-code in
     rw (p .1, p .2) (codes-stop _ _ (places a) (c .loop-m .m) _ (long a) (this a ∙ c .in-Break-judge-code .was tt) (c .loop-m .inv))

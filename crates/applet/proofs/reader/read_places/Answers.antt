@@ -46,7 +46,7 @@ loop-m-again c =
     let l : c .loop-m .m < length (c .loop-m .places) = let h = c .loop-m .inv .1 in omega arith in
     let here : c .place .result ≡ at = c .place .ensures in
     let next : c .read-method .last .fields .at ≡ behind at (standing f at) =
-        c .read-method .ensures .at ∙ ap (λ (g : List ℕ). behind at (standing g at)) (c .loop-m .inv .0) in
+    c .read-method .ensures .at ∙ ap (λ (g : List ℕ). behind at (standing g at)) (c .loop-m .inv .0) in
     rw (here, next) (
       c .read-method .ensures .holder ∙ c .loop-m .inv .0,
       length-set (c .loop-m .places) (c .loop-m .m) at ∙ c .loop-m .inv .1,
@@ -57,7 +57,7 @@ loop-m-again c =
 pub returns-then-not-ended : need.returns-then-not-ended
 returns-then-not-ended c =
     let t : leb (length (now (c .args .fields .now .holder))) (c .loop-m .fields .at) ≡ false =
-        ap (λ (f : List ℕ). leb (length f) (c .loop-m .fields .at)) (sym (c .loop-m .inv .0)) ∙ sym (c .if-not-ended .ensures tt) in
+    ap (λ (f : List ℕ). leb (length f) (c .loop-m .fields .at)) (sym (c .loop-m .inv .0)) ∙ sym (c .if-not-ended .ensures tt) in
     record {
       value = ap (λ p. Err (BadField p)) (c .place-then-not-ended .ensures) ∙
           place-over _ _ _ (c .loop-m .m) (c .loop-m .fields .at) (c .loop-m .places) (omega arith) t (c .loop-m .inv .3);
@@ -67,7 +67,7 @@ returns-then-not-ended c =
 pub returns : need.returns
 returns c =
     let t : leb (length (now (c .args .fields .now .holder))) (c .loop-m .fields .at) ≡ true =
-        ap (λ (f : List ℕ). leb (length f) (c .loop-m .fields .at)) (sym (c .loop-m .inv .0)) ∙ sym (c .if-not-ended .ensures tt) in
+    ap (λ (f : List ℕ). leb (length f) (c .loop-m .fields .at)) (sym (c .loop-m .inv .0)) ∙ sym (c .if-not-ended .ensures tt) in
     let z : c .args .methods ≡ c .loop-m .m = omega arith in
     record {
       value = place-ends _ _ _ (c .loop-m .m) (c .loop-m .fields .at) (c .loop-m .places) z t (c .loop-m .inv .3);
