@@ -4,7 +4,7 @@ ghost use Prim.Native.Nat.{ℕ, _+_, _*_, _≤_, _<_, _/_, _%_};
 ghost use lib.Dec.{ltb};
 ghost use lib.ListN.{length, take, drop, getD};
 ghost use Rattle.std.specs.Vec.{made};
-ghost use Rattle.std.specs.Options.{mapped};
+ghost use Rattle.std.specs.Options.{Cases as BySome, mapped};
 ghost use Rattle.std.specs.declared.option.Option.the-variants.{Some};
 ghost use Rattle.applet.specs.Table.{row};
 ghost use Rattle.std.specs.declared.result.Result.the-variants.{Ok};
@@ -362,7 +362,8 @@ impl<'a> Applet<'a> {
 
     // The code of a method, as that part of the file.
     pub fn code(&self, m: usize) -> Option<&'a [u8]>
-        ensures { λ r. ⌜ shown r ≡ mapped (contents-at (now (now (self .entry) .file))) (nth (places-of (now (self .entry))) m) ⌝ }
+        ensures size { λ r. ⌜ BySome r (Unit {0}) (λ c. length (now c) ≤ 65535) ⌝ }
+        ensures value { λ r. ⌜ shown r ≡ mapped (contents-at (now (now (self .entry) .file))) (nth (places-of (now (self .entry))) m) ⌝ }
     {
         match self.place(m) {
             Some(p) => Some(contents_of(self.file, p)),

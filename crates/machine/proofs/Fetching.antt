@@ -7,7 +7,8 @@ use native.Mathlib.Omega.{arith}
 use borrow.Author.Needs.{needs}
 use lib.ListN.{length, getD}
 use Rattle.std.specs.shelf.Lists.{All}
-use Rattle.std.specs.Options.{Cases}
+use Rattle.std.specs.Options.{Cases, mapped}
+use Rattle.model.specs.Fields.{contents-at}
 use Rattle.std.proofs.shelf.Tests.{and-parts, ltb-true, cond-both}
 use Rattle.std.specs.declared.option.Option.{Option}
 use Rattle.std.specs.declared.option.Option.the-variants.{Some, None}
@@ -16,7 +17,7 @@ use Rattle.model.specs.declared.Own.{Own}
 use Rattle.model.specs.Words.{Quad, quads, quad-at, word, Entry, table, find, limit, fits, made, decode}
 use Rattle.model.proofs.Options.{none-some}
 use Rattle.model.proofs.Words.{found}
-use Rattle.applet.specs.Applets.{or-end}
+use Rattle.applet.specs.Applets.{or-end, code-in, nth}
 use Rattle.machine.specs.Ranges.{Valid}
 
 -- four bytes further on
@@ -30,7 +31,7 @@ behind-four a b c d r p =
     λ i. record { a = getD xs (e i) 0; b = getD xs (f i) 0; c = getD xs (g i) 0; d = getD xs (h i) 0 }
 
 module _ (n : ℕ) where
-  abbrev code-of : List ℕ → List Instr
+  abbrev pub code-of : List ℕ → List Instr
   code-of xs = map (λ q. or-end (decode n q)) (quads xs)
 
   pub inside : (xs : List ℕ) (i : ℕ) → 4 * i + 4 ≤ length xs → or-end (decode n (quad-at xs (4 * i))) ≡ getD (code-of xs) i (Instr.Own Own.End)
@@ -83,3 +84,19 @@ module _ (n : ℕ) (q : Quad) (i : Instr) where
 pub valid-all : (n k l : ℕ) (q : Quad) (o : Option Instr) → o ≡ decode n q → k ≤ l → Cases o (Unit {0}) (λ i. Valid i × (k ≤ l))
 valid-all n k l q None e h = tt
 valid-all n k l q (Some i) e h = (valid n q i (sym e), h)
+
+-- the code of method m, at its place in file f
+pub code-some : (f ps : List ℕ) (n m : ℕ) (c : List ℕ) → Some c ≡ mapped (contents-at f) (nth ps m) → getD (map (code-in f n) ps) m [] ≡ code-of n c
+code-some f [] n m c e = absurd (none-some (sym e))
+code-some f (p ∷ ps) n zero c e = let z : contents-at f p ≡ c = cc in ap (code-of n) z
+code-some f (p ∷ ps) n (suc m) c e = code-some f ps n m c e
+
+pub code-none : (f ps : List ℕ) (n m : ℕ) → None ≡ mapped (contents-at f) (nth ps m) → getD (map (code-in f n) ps) m [] ≡ []
+code-none f [] n m e = refl
+code-none f (p ∷ ps) n zero e = absurd (none-some e)
+code-none f (p ∷ ps) n (suc m) e = code-none f ps n m e
+
+-- the index of an instruction in code of at most 65,535 bytes
+pub low-index : (i l : ℕ) (o : Option Instr) → l ≤ 65535 → Cases o (Unit {0}) (λ x. Valid x × (4 * i + 4 ≤ l)) → Cases o (Unit {0}) (λ x. Valid x × (i < 65536))
+low-index i l None h k = tt
+low-index i l (Some x) h k = (k .0, omega arith)

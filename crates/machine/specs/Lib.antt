@@ -2,3 +2,5 @@
 pub mod Views
 -- operands in their ranges
 pub mod Ranges
+-- the machine as its host sees it
+pub mod Machines

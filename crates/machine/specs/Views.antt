@@ -16,6 +16,8 @@ use Rattle.model.specs.declared.Refusal.{Refusal}
 use Rattle.model.specs.declared.Refusal.the-variants.{NoThread, MachineStopped, StillAwaiting, NotAwaiting, ThreadEnded}
 use Rattle.model.specs.Machine as model
 use Rattle.model.specs.declared.Status.{Status}
+use Rattle.model.specs.declared.Own.{Own}
+use Rattle.model.specs.declared.Instr.{Instr}
 use Rattle.machine.specs.declared.threads.Frame.{Frame}
 use Rattle.machine.specs.declared.threads.Thread.{Thread}
 use Rattle.machine.specs.declared.threads.Stand.{Stand}
@@ -144,3 +146,7 @@ going-on u i v = record { status = Status.Ready; top = record { method = u .top 
 -- thread t goes on with its answer
 abbrev pub resumed : model.Machine → ℕ → ℕ → ℤ → model.Machine
 resumed m t i v = model.with-args (model.with-thread m t (going-on (model.thread m t) i v)) (cond (model.holds (m .holder) t) (set (m .args) 4 v) (m .args))
+
+-- the instruction at which a thread stands
+abbrev pub fetched : model.Applet → Stand → Instr
+fetched p s = getD (getD (p .methods) (s .method) []) (s .index) (Instr.Own Own.End)

@@ -6,8 +6,11 @@ ghost use lib.ListN.{length, getD};
 ghost use Rattle.std.specs.Options.{Cases as BySome};
 ghost use Rattle.model.specs.Machine.{raised-target as going-on};
 ghost use Rattle.model.specs.Words.{quads, decode as decoding};
-ghost use Rattle.applet.specs.Applets.{or-end};
+ghost use Rattle.applet.specs.Applets.{or-end, meant};
 ghost use Rattle.machine.specs.Ranges.{Valid};
+ghost use Rattle.machine.specs.Views.{fetched};
+use crate::threads::Stand;
+use applet::Applet;
 use applet::decode;
 use model::Instr;
 use model::Own;
@@ -25,6 +28,17 @@ pub fn instr_at(code: &[u8], index: u32, methods: u8) -> Option<Instr>
         [code[at], code[at + 1], code[at + 2], code[at + 3]],
         methods,
     )
+}
+
+// The instruction at which a thread stands; none past the end of its method's code.
+pub fn fetch(applet: &Applet<'_>, at: Stand) -> Option<Instr>
+    ensures value { λ r. ⌜ or-end r ≡ fetched (meant (now (applet .entry))) at ⌝ }
+    ensures valid { λ r. ⌜ BySome r (Unit {0}) (λ i. Valid i × (at .index < 65536)) ⌝ }
+{
+    match applet.code(at.method as usize) {
+        Some(code) => instr_at(code, at.index, applet.methods()),
+        None => None,
+    }
 }
 
 // Where a HOST that is answered as raised goes on.

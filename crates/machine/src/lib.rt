@@ -1,11 +1,13 @@
 // The machine that runs applets: load, step, answer.
 mod code;
 mod fresh;
+mod machines;
 mod numbers;
 mod states;
 mod threads;
 mod turns;
 
+pub use machines::Machine;
 pub use states::State;
 pub use threads::Frame;
 pub use threads::Thread;

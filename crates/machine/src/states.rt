@@ -24,7 +24,7 @@ use model::Test;
 
 // The first `count` threads are in use. There is no reference and no search in it: a step writes to
 // one thread in place.
-#[derive(Clone, Copy)]
+#[derive(Drop)]
 pub struct State {
     pub threads: [Thread; 8],
     pub count: u8,
