@@ -21,6 +21,7 @@ use Rattle.model.specs.Runs.{after}
 use Rattle.model.specs.declared.Outcome.{Outcome}
 use Rattle.model.specs.declared.Reason.{Reason}
 use Rattle.model.specs.declared.Status.{Status}
+use Rattle.applet.specs.Applets.{nth}
 use Rattle.machine.specs.declared.threads.Thread.{Thread}
 use Rattle.machine.specs.declared.states.State.{State}
 use Rattle.machine.specs.Views.{no-thread, thread-of, threads-of, machine-of, stored, said, passes, cells-after, scratch-after, admitted, ready-by, ready-of, awaiting-by, awaiting-of, going-on, resumed}
@@ -37,6 +38,17 @@ pub threads-many : (n : ℕ) (us : List Thread) → length (threads-of n us) ≡
 threads-many zero us = sym (omega arith)
 threads-many (suc n) [] = sym (omega arith)
 threads-many (suc n) (u ∷ us) = let h = threads-many n us in omega arith
+
+pub nth-thread : (n t : ℕ) (us : List Thread) → t < n → t < length us → Some (thread-of (getD us t no-thread)) ≡ nth (threads-of n us) t
+nth-thread zero t us h l = absurd (omega arith)
+nth-thread (suc n) t [] h l = absurd (omega arith)
+nth-thread (suc n) zero (u ∷ us) h l = refl
+nth-thread (suc n) (suc t) (u ∷ us) h l = nth-thread n t us (omega arith) (omega arith)
+
+pub nth-past : {X : Type 0} (xs : List X) (i : ℕ) → length xs ≤ i → None ≡ nth xs i
+nth-past [] i h = refl
+nth-past (x ∷ xs) zero h = absurd (omega arith)
+nth-past (x ∷ xs) (suc i) h = nth-past xs i (omega arith)
 
 -- another thread in the place of thread t
 pub thread-put : (n t : ℕ) (us : List Thread) (u : Thread) → threads-of n (set us t u) ≡ set (threads-of n us) t (thread-of u)

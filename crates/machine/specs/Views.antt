@@ -5,6 +5,7 @@ use mathlib.Core.List.{List, [], _∷_, map}
 use Prim.Native.Nat.{ℕ, zero, suc, min, _<_}
 use lib.Dec.{ltb}
 use lib.IntN.{ℤ}
+use denote.Ref.{now, RefT}
 use lib.ListN.{length, getD, set, take}
 use Rattle.std.specs.declared.option.Option.{Option}
 use Rattle.std.specs.declared.option.Option.the-variants.{Some, None}
@@ -150,3 +151,8 @@ resumed m t i v = model.with-args (model.with-thread m t (going-on (model.thread
 -- the instruction at which a thread stands
 abbrev pub fetched : model.Applet → Stand → Instr
 fetched p s = getD (getD (p .methods) (s .method) []) (s .index) (Instr.Own Own.End)
+
+-- a thread that is looked at
+abbrev pub shown-thread : Option (RefT Thread) → Option model.Thread
+shown-thread None = None
+shown-thread (Some u) = Some (thread-of (now u))

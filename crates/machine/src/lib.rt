@@ -1,6 +1,7 @@
 // The machine that runs applets: load, step, answer.
 mod code;
 mod fresh;
+mod looks;
 mod machines;
 mod numbers;
 mod states;

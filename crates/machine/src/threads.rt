@@ -99,9 +99,21 @@ impl Thread {
 
     // How many frames lie below the topmost one.
     pub fn below(&self) -> u8
-        ensures { λ r. ⌜ r ≡ min (now (self .entry) .depth) 15 ⌝ }
+        ensures count { λ r. ⌜ r ≡ length (thread-of (now (self .entry)) .callers) ⌝ }
+        ensures stored { λ r. ⌜ r ≡ min (now (self .entry) .depth) 15 ⌝ }
     {
         if self.depth < 15 { self.depth } else { 15 }
+    }
+
+    // The index of the topmost frame.
+    pub fn index(&self) -> u32
+        ensures { λ r. ⌜ r ≡ thread-of (now (self .entry)) .top .index ⌝ }
+    {
+        match self.status {
+            Status::Awaiting => rest(self.top.index),
+            Status::Ready => self.top.index,
+            Status::Ended => self.top.index,
+        }
     }
 
     // Register x.
