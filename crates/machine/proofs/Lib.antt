@@ -6,3 +6,5 @@ pub mod Rows
 pub mod Fetching
 -- threads that were just started
 pub mod Started
+-- what is seen of acts
+pub mod Traces

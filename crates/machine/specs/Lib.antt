@@ -4,3 +4,5 @@ pub mod Views
 pub mod Ranges
 -- the machine as its host sees it
 pub mod Machines
+-- acts and what is seen
+pub mod Acts

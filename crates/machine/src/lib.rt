@@ -1,4 +1,5 @@
 // The machine that runs applets: load, step, answer.
+mod acts;
 mod code;
 mod fresh;
 mod looks;
@@ -8,6 +9,8 @@ mod states;
 mod threads;
 mod turns;
 
+pub use acts::Act;
+pub use acts::Seen;
 pub use machines::Machine;
 pub use states::State;
 pub use threads::Frame;

@@ -62,4 +62,11 @@ impl<'a> Machine<'a> {
         self.state.resume(thread, index, value);
         Ok(())
     }
+
+    // What the machine holds now, to look at.
+    pub fn state(&self) -> &State
+        ensures { λ r. ⌜ machine-of (now r) ≡ holds-now (now (self .entry)) ⌝ }
+    {
+        &self.state
+    }
 }
