@@ -8,13 +8,19 @@ use std::env;
 use std::error::AnyError;
 use std::fs;
 
-// How a command ended: with its report, or with a refusal, which was printed.
+// How a command ended: with its report; with a refusal, which was printed; or with an error, of which
+// standard error was told.
 enum Ended {
     Done,
     Refused,
+    Failed,
 }
 
-const USAGE: &str = "usage: station list APPLET";
+// Says how the program is called.
+fn usage(rt: &LibcRuntime) -> Result<Ended, AnyError> {
+    eprintln!(rt, "usage: station list APPLET")?;
+    Ok(Ended::Failed)
+}
 
 // Prints a refusal: its number and place, then what is wrong and where.
 fn refused(rt: &LibcRuntime, r: &Refusal) -> Result<Ended, AnyError> {
@@ -28,7 +34,13 @@ fn refused(rt: &LibcRuntime, r: &Refusal) -> Result<Ended, AnyError> {
 
 // Lists an applet.
 fn list_file(rt: &LibcRuntime, path: &str) -> Result<Ended, AnyError> {
-    let file = fs::read(rt, path)?;
+    let file = match fs::read(rt, path) {
+        Ok(file) => file,
+        Err(e) => {
+            eprintln!(rt, "station: {path}: {e}")?;
+            return Ok(Ended::Failed);
+        }
+    };
     match Applet::read(file.as_slice()) {
         Ok(a) => {
             list::applet(rt, &a, file.len())?;
@@ -43,13 +55,13 @@ fn run(rt: &LibcRuntime) -> Result<Ended, AnyError> {
     let mut args = env::args(rt)?;
     let _program = args.next();
     let Some(command) = args.next() else {
-        return Err(USAGE.into());
+        return usage(rt);
     };
     let Some(path) = args.next() else {
-        return Err(USAGE.into());
+        return usage(rt);
     };
     if args.next().is_some() || command.as_str() != "list" {
-        return Err(USAGE.into());
+        return usage(rt);
     }
     list_file(rt, path.as_str())
 }
@@ -58,6 +70,7 @@ fn main(rt: LibcRuntime) -> Result<(), AnyError> {
     match run(&rt) {
         Ok(Ended::Done) => Ok(()),
         Ok(Ended::Refused) => Err("refused".into()),
+        Ok(Ended::Failed) => Err("failed".into()),
         Err(e) => rt.report(Err(e)),
     }
 }
