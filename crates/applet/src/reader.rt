@@ -11,7 +11,7 @@ ghost use Rattle.std.specs.declared.result.Result.the-variants.{Ok};
 ghost use Rattle.model.specs.Words.{quads, quad-at, decode, signed-of};
 ghost use Rattle.model.specs.Reading.{landed, read-applet};
 ghost use Rattle.model.specs.Fields.{standing, behind, every, contents-at};
-ghost use Rattle.applet.specs.Applets.{found, found-in, meant, read-seen, Placed, nth, places-of, shown};
+ghost use Rattle.applet.specs.Applets.{found, found-in, meant, read-seen, Placed, Kept, nth, places-of, shown};
 ghost use Rattle.applet.specs.Stages.{staged, head-of, entries-of, cells-of, method-of, due-at, places-from, places-in, row-judged, passed, judged, codes-judged};
 use crate::rows::Fields;
 use crate::rows::Part;
@@ -295,11 +295,13 @@ impl Layout {
 
 impl<'a> Applet<'a> {
     // Reads an applet: one pass over the fields, then one over the instructions. What is refused, and
-    // at which place, is the model's.
+    // at which place, is the model's; what is read is within all limits, and written again it is the
+    // file.
     pub fn read(file: &'a [u8]) -> Result<Applet<'a>, Refusal>
         ensures value { λ r. ⌜ read-seen r ≡ read-applet (now (file .entry)) ⌝ }
         ensures file { λ r. ⌜ made r (λ a. now (a .file) ≡ now (file .entry)) ⌝ }
         ensures places { λ r. ⌜ made r Placed ⌝ }
+        ensures kept { λ r. ⌜ made r (λ a. Kept (now (file .entry)) (meant a)) ⌝ }
     {
         match read_layout(file) {
             Ok(layout) => Ok(Applet { file, layout }),

@@ -55,7 +55,7 @@ fn method(rt: &LibcRuntime, a: &Applet<'_>, m: usize) -> Result<(), AnyError> {
 }
 
 // The head line, each thread's entry, each start value, each method.
-pub fn applet(rt: &LibcRuntime, a: &Applet<'_>, bytes: usize) -> Result<(), AnyError> {
+pub(crate) fn applet(rt: &LibcRuntime, a: &Applet<'_>, bytes: usize) -> Result<(), AnyError> {
     let entries = a.entries();
     let threads = entries.len();
     let methods = a.methods();

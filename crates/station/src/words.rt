@@ -4,7 +4,7 @@ use model::Refusal;
 use std::fmt;
 
 // The name of an opcode.
-pub fn name(op: u8) -> &'static str {
+pub(crate) fn name(op: u8) -> &'static str {
     match op {
         0x01 => "SET",
         0x02 => "MOV",
@@ -80,7 +80,7 @@ pub impl fmt::Display for Named as NamedDisplay {
 }
 
 // What is wrong where a file is refused.
-pub fn meaning(r: &Refusal) -> &'static str {
+pub(crate) fn meaning(r: &Refusal) -> &'static str {
     match *r {
         Refusal::AreaTooShort => "the area is too short",
         Refusal::NoThread => "there is no such thread",
