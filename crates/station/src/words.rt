@@ -90,15 +90,20 @@ pub(crate) fn meaning(r: &Refusal) -> &'static str {
         Refusal::MachineStopped => "the machine has stopped",
         Refusal::LockHeld => "the lock is held",
         Refusal::NoSuchEvent => "calls go up to 63, moments up to 2",
-        Refusal::BadField(_) => "a field is broken, missing, out of order or left over, or the file is too long",
+        Refusal::BadField(_) =>
+            "a field is broken, missing, out of order or left over, or the file is too long",
         Refusal::BadSize(_) => "a size or a count of this field is outside its limits",
         Refusal::BadInstruction(_) => "this opcode is unknown, or an operand is outside its range",
-        Refusal::BadLanding(_) => "this instruction leads outside its method, or cannot be the last one",
+        Refusal::BadLanding(_) =>
+            "this instruction leads outside its method, or cannot be the last one",
         Refusal::NotPlain(_) => "the applet is not plain",
-        Refusal::MethodTooLong(_) => "this method would have more than 4096 instructions once woven",
+        Refusal::MethodTooLong(_) =>
+            "this method would have more than 4096 instructions once woven",
         Refusal::FileTooLong => "the woven file would have more than 65535 bytes",
-        Refusal::BadPolicyField(_) => "a field of the policy is broken, missing, out of order or left over, or the file is too long",
-        Refusal::BadPolicySize(_) => "a size, a count or a number of this field is outside its limits",
+        Refusal::BadPolicyField(_) =>
+            "a field of the policy is broken, missing, out of order or left over, or the file is too long",
+        Refusal::BadPolicySize(_) =>
+            "a size, a count or a number of this field is outside its limits",
         Refusal::BadExpression(_) => "this expression is not one that the policy can have",
         Refusal::SecondRow(_) => "a row for this call and moment stands before",
         Refusal::BlockTooLong => "a block has more than 1000 instructions",
