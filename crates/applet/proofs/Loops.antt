@@ -18,7 +18,7 @@ use Rattle.std.specs.declared.option.Option.the-variants.{Some, None}
 use Rattle.std.specs.declared.result.Result.the-variants.{Ok, Err}
 use Rattle.model.specs.declared.Refusal.{Refusal}
 use Rattle.model.specs.declared.Refusal.the-variants.{BadField}
-use Rattle.model.specs.Fields.{Read, every, standing, behind}
+use Rattle.model.specs.Fields.{Bytes, Read, every, standing, behind}
 use Rattle.model.specs.declared.Instr.{Instr}
 use Rattle.model.specs.Words.{Quad, quads, quad-at, decode}
 use Rattle.model.specs.Reading.{landed}
@@ -239,3 +239,8 @@ nth-quads g (a ∷ (b ∷ (c ∷ (d ∷ r)))) (suc i) h =
     nth-quads g r i (omega arith) ∙ ap (λ q. Some (g q))
     (sym (ap (quad-at (a ∷ (b ∷ (c ∷ (d ∷ r))))) e ∙ quad-shift a (b ∷ c ∷ d ∷ r) (suc (suc (suc (4 * i)))) ∙ quad-shift b (c ∷ d ∷ r) (suc (suc (4 * i))) ∙
     quad-shift c (d ∷ r) (suc (4 * i)) ∙ quad-shift d r (4 * i)))
+
+-- a list of bytes, byte by byte
+pub bytes-from : (xs : List ℕ) → ((i : ℕ) → getD xs i 0 < 256) → Bytes xs
+bytes-from [] h = tt
+bytes-from (x ∷ xs) h = (h 0, bytes-from xs (λ i. h (suc i)))

@@ -14,7 +14,7 @@ use Rattle.model.specs.declared.Refusal.{Refusal}
 use Rattle.model.specs.Machine as machine
 use Rattle.model.specs.Words.{Quad, quads, signed-of, decode}
 use Rattle.model.specs.Fields.{Read, contents-at}
-use Rattle.model.specs.Reading.{method-place}
+use Rattle.model.specs.Reading.{Valid, write-applet, method-place}
 use Rattle.applet.specs.declared.reader.Layout.{Layout}
 use Rattle.applet.specs.declared.reader.Applet.{Applet}
 use Rattle.applet.specs.Stages.{Found}
@@ -72,3 +72,8 @@ places-of a = found (a .layout) .places
 -- each method stands where the model has it
 abbrev pub Placed : Applet → Type 0
 Placed a = (m : ℕ) → m < length (meant a .methods) → nth (places-of a) m ≡ Some (method-place (meant a) m)
+
+-- an applet is within all limits, and written again it is the file
+pub record Kept (f : List ℕ) (a : machine.Applet) : Type 0 where
+  pub valid : Valid a
+  pub written : write-applet a ≡ f

@@ -7,12 +7,16 @@ ghost use Rattle.std.specs.Vec.{made};
 ghost use Rattle.std.specs.Options.{Cases as BySome, mapped};
 ghost use Rattle.std.specs.declared.option.Option.the-variants.{Some};
 ghost use Rattle.applet.specs.Table.{row};
+ghost use Rattle.applet.specs.Glances.{Seen, blind};
 ghost use Rattle.std.specs.declared.result.Result.the-variants.{Ok};
 ghost use Rattle.model.specs.Words.{quads, quad-at, decode, signed-of};
 ghost use Rattle.model.specs.Reading.{landed, read-applet};
 ghost use Rattle.model.specs.Fields.{standing, behind, every, contents-at};
-ghost use Rattle.applet.specs.Applets.{found, found-in, meant, read-seen, Placed, nth, places-of, shown};
+ghost use Rattle.applet.specs.Applets.{found, found-in, meant, read-seen, Placed, Kept, nth, places-of, shown};
 ghost use Rattle.applet.specs.Stages.{staged, head-of, entries-of, cells-of, method-of, due-at, places-from, places-in, row-judged, passed, judged, codes-judged};
+use crate::glance::Glance;
+use crate::glance::glances;
+use crate::glance::passes;
 use crate::rows::Fields;
 use crate::rows::Part;
 use crate::table::Entry;
@@ -176,13 +180,17 @@ fn judge(code: &[u8], index: u16, size: u16, methods: u8, place: usize) -> Resul
 }
 
 // The instructions of a method, whose code stands at a place.
-fn judge_code(code: &[u8], methods: u8, place: usize) -> Result<(), Refusal>
+fn judge_code(quick: &[Glance; 64], code: &[u8], methods: u8, place: usize) -> Result<(), Refusal>
+    requires quick { ⌜ ((op : ℕ) → op < 64 → Seen methods op (getD (now quick) op blind)) ⌝ }
     requires size { ⌜ length (now code) ≤ 65535 ⌝ }
     requires place { ⌜ place < 65539 ⌝ }
     ensures { λ r. ⌜ r ≡ judged methods (length (quads (now (code .entry)))) 0 place (quads (now (code .entry))) ⌝ }
 {
     let size = (code.len() / 4) as u16;
     for index in 0..size {
+        if passes(quick, code, index, size) {
+            continue;
+        }
         judge(code, index, size, methods, place + 4 * index as usize)?;
     }
     Ok(())
@@ -225,9 +233,10 @@ fn judge_codes(file: &[u8], methods: u8, places: &[usize; 32]) -> Result<(), Ref
     requires inside { ⌜ ((m : ℕ) → m < methods → getD (now places) m 0 < 65536) ⌝ }
     ensures { λ r. ⌜ r ≡ codes-judged methods (now (file .entry)) (take methods (now (places .entry))) ⌝ }
 {
+    let quick = glances(methods);
     for m in 0..methods as usize {
         let p = places[m];
-        judge_code(contents_of(file, p), methods, p + 3)?;
+        judge_code(&quick, contents_of(file, p), methods, p + 3)?;
     }
     Ok(())
 }
@@ -295,11 +304,13 @@ impl Layout {
 
 impl<'a> Applet<'a> {
     // Reads an applet: one pass over the fields, then one over the instructions. What is refused, and
-    // at which place, is the model's.
+    // at which place, is the model's; what is read is within all limits, and written again it is the
+    // file.
     pub fn read(file: &'a [u8]) -> Result<Applet<'a>, Refusal>
         ensures value { λ r. ⌜ read-seen r ≡ read-applet (now (file .entry)) ⌝ }
         ensures file { λ r. ⌜ made r (λ a. now (a .file) ≡ now (file .entry)) ⌝ }
         ensures places { λ r. ⌜ made r Placed ⌝ }
+        ensures kept { λ r. ⌜ made r (λ a. Kept (now (file .entry)) (meant a)) ⌝ }
     {
         match read_layout(file) {
             Ok(layout) => Ok(Applet { file, layout }),

@@ -44,5 +44,5 @@ pub mod EnforcedPolicies
 pub mod Rows
 pub mod Watch
 -- examples
-pub mod Rehearsal
+pub mod Examples
 pub mod RefusedFiles

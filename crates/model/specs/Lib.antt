@@ -38,5 +38,5 @@ pub mod Watch
 -- what enforcement means, over files and whole runs
 pub mod Enforcement
 -- examples, by computation
-pub mod Rehearsal
+pub mod Examples
 pub mod RefusedFiles

@@ -1,12 +1,16 @@
 -- Files that are refused, each with its number and place.
-use mathlib.Core.List.{List, [], _∷_, _++_}
+use mathlib.Core.Path.{_≡_}
+use mathlib.Core.List.{List, [], _∷_, _++_, map}
 use Prim.Native.Nat.{ℕ, zero, suc}
 use lib.ListN.{take, drop, set}
+use Rattle.std.specs.declared.option.Option.the-variants.{None}
 use Rattle.std.specs.declared.result.Result.the-variants.{Ok}
 use Rattle.model.specs.Machine.{Applet}
 use Rattle.model.specs.Fields.{Read, refuse, field}
-use Rattle.model.specs.Kinds.{Policy}
-use Rattle.model.specs.Rehearsal.{policy-file, plain-file, woven-file}
+use Rattle.model.specs.Kinds.{Policy, read-policy, check-bytes}
+use Rattle.model.specs.Reading.{read-applet}
+use Rattle.model.specs.Words.{limit, table}
+use Rattle.model.specs.Examples.{policy-file, plain-file, woven-file, weave-in}
 use Rattle.model.specs.declared.Refusal.the-variants.{AreaTooShort, BadField, BadSize, BadInstruction, BadLanding, NotPlain, MethodTooLong, FileTooLong, BadPolicyField, BadPolicySize, BadExpression, SecondRow, BlockTooLong, OutsideSite, OffSite}
 
 -- a list n times
@@ -14,7 +18,7 @@ abbrev pub repeat : ℕ → List ℕ → List ℕ
 repeat zero c = []
 repeat (suc n) c = c ++ repeat n c
 
--- the plain file of the rehearsal set
+-- the plain file of the worked examples
 abbrev A : List ℕ
 A = plain-file 7
 
@@ -63,7 +67,7 @@ policies =
     -- the 65th rule, the ninth update
     (take 12 policy-file ++ repeat 65 (drop 12 policy-file), refuse (BadPolicySize 1932)) ∷
     (set (take 29 policy-file ++ repeat 9 (drop 29 policy-file)) 14 131, refuse (BadPolicySize 133)) ∷
-    -- a4 in a before rule, two values at the end
+    -- a4 in a before rule, three values at the end
     (set policy-file 22 4, refuse (BadExpression 17)) ∷
     (set policy-file 39 2, refuse (BadExpression 29)) ∷
     -- 64 rules of 17 instructions and the VIOL are 1,089
@@ -98,3 +102,18 @@ weavings =
     (large 1 256, refuse (MethodTooLong 12)) ∷
     (large 6 200, refuse FileTooLong) ∷
     (A, refuse AreaTooShort) ∷ []
+
+-- each file is refused, or accepted, as it was worked out by hand
+pub record Refused : Type 0 where
+  pub reading : map (λ c. read-applet (c .0)) applets ≡ map (λ c. c .1) applets
+  pub policy-reading : map (λ c. read-policy (c .0)) policies ≡ map (λ c. c .1) policies
+  pub checking : map (λ c. check-bytes policy-file None (c .0) 18) checks ≡ map (λ c. c .1) checks
+  pub weaving : map (λ c. weave-in policy-file (c .0) 90) weavings ≡ map (λ c. c .1) weavings
+
+-- the list of opcodes once more in numbers, with 32 methods: opcode, how many values x has, how many y has
+abbrev pub Listed : Type 0
+Listed = map (λ e. e .op ∷ limit 32 (e .x) ∷ limit 32 (e .y) ∷ []) table ≡
+    (0x01 ∷ 8 ∷ 65536 ∷ []) ∷ (0x02 ∷ 8 ∷ 8 ∷ []) ∷ (0x03 ∷ 8 ∷ 8 ∷ []) ∷ (0x04 ∷ 8 ∷ 8 ∷ []) ∷ (0x05 ∷ 8 ∷ 8 ∷ []) ∷ (0x06 ∷ 8 ∷ 8 ∷ []) ∷
+    (0x07 ∷ 8 ∷ 64 ∷ []) ∷ (0x08 ∷ 8 ∷ 64 ∷ []) ∷ (0x09 ∷ 1 ∷ 65536 ∷ []) ∷ (0x0A ∷ 8 ∷ 65536 ∷ []) ∷ (0x0B ∷ 1 ∷ 32 ∷ []) ∷ (0x0C ∷ 1 ∷ 1 ∷ []) ∷
+    (0x0D ∷ 64 ∷ 65536 ∷ []) ∷ (0x0E ∷ 1 ∷ 1 ∷ []) ∷ (0x20 ∷ 64 ∷ 1 ∷ []) ∷ (0x21 ∷ 1 ∷ 1 ∷ []) ∷ (0x22 ∷ 1 ∷ 65536 ∷ []) ∷ (0x23 ∷ 8 ∷ 65536 ∷ []) ∷
+    (0x24 ∷ 1 ∷ 1 ∷ []) ∷ (0x25 ∷ 8 ∷ 65536 ∷ []) ∷ (0x26 ∷ 8 ∷ 32 ∷ []) ∷ (0x27 ∷ 8 ∷ 5 ∷ []) ∷ (0x28 ∷ 8 ∷ 32 ∷ []) ∷ (0x29 ∷ 7 ∷ 6 ∷ []) ∷ []

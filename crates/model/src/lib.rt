@@ -2,6 +2,10 @@
 // formats, the machine, policies, weave, check and enforcement.
 ghost use mathlib.Core.Path.{_≡_};
 ghost use Rattle.model.specs.Refusals.{number, place};
+ghost use Rattle.model.specs.Moments.{moment-number};
+ghost use Rattle.model.specs.Machine.{reason-number};
+ghost use Rattle.model.specs.Examples.{Worked};
+ghost use Rattle.model.specs.RefusedFiles.{Refused, Listed};
 
 // An operator of a policy's test: a sum or a difference, which wrap, or a comparison or a
 // connective, which give 1 or 0.
@@ -193,4 +197,41 @@ impl Refusal {
             _ => 0,
         }
     }
+}
+
+impl Moment {
+    // The moment's number: 0, 1 or 2.
+    pub fn number(&self) -> u8
+        ensures { λ r. ⌜ r ≡ moment-number (now (self .entry)) ⌝ }
+    {
+        match *self {
+            Moment::Before => 0,
+            Moment::After => 1,
+            Moment::Raised => 2,
+        }
+    }
+}
+
+impl Reason {
+    // The reason's number: 0, 1 or 2.
+    pub fn number(&self) -> u8
+        ensures { λ r. ⌜ r ≡ reason-number (now (self .entry)) ⌝ }
+    {
+        match *self {
+            Reason::Finished => 0,
+            Reason::TooDeep => 1,
+            Reason::NotHolder => 2,
+        }
+    }
+}
+
+// The definitions compute, from bytes up, what was worked out by hand: the examples of the
+// documentation, files that are refused, and the list of opcodes. How many groups there are.
+pub fn examples_hold() -> u8
+    ensures worked { λ _. ⌜ Worked ⌝ }
+    ensures refused { λ _. ⌜ Refused ⌝ }
+    ensures listed { λ _. ⌜ Listed ⌝ }
+    ensures groups { λ r. ⌜ r ≡ 3 ⌝ }
+{
+    3
 }

@@ -26,6 +26,11 @@ returns-in-Break-judge c =
     (code-stops (c .args .methods) (length (c .args .code .now) / 4) (c .args .place) (c .args .code .now) (c .loop-index .index) _ (omega arith) (sym (c .judge .ensures) ∙ c .in-Break-judge .was tt) (c .loop-index .inv) ∙
     sized (c .args .methods) (c .args .place) (now (c .args .code)))
 
+pub loop-index-again-then-passes : need.loop-index-again-then-passes
+loop-index-again-then-passes c =
+    code-more (c .args .methods) (length (c .args .code .now) / 4) (c .args .place) (c .args .code .now) (c .loop-index .index) (omega arith)
+    (c .passes .ensures (c .args .methods) (c .args .place + 4 * c .loop-index .index) (c .pre .quick) (c .if-passes .taken)) (c .loop-index .inv)
+
 pub loop-index-again : need.loop-index-again
 loop-index-again c = code-more (c .args .methods) (length (c .args .code .now) / 4) (c .args .place) (c .args .code .now) (c .loop-index .index) (omega arith) (sym (c .judge .ensures) ∙ c .in-Continue-judge .was tt) (c .loop-index .inv)
 

@@ -1,4 +1,5 @@
--- The rehearsal set: one policy file and one applet file, and what each call says of them.
+-- Worked examples: one policy file and one applet file, and what each call says of them.
+use mathlib.Core.Path.{_≡_}
 use mathlib.Core.List.{List, [], _∷_}
 use Prim.Native.Nat.{ℕ}
 use lib.ListN.{length, set, replicate}
@@ -93,7 +94,7 @@ step-after n f = do
   l ← load-file f
   said (step (l .applet) (run (l .applet) (l .machine) (replicate n (Act.step-of 0))) 0)
 
--- what the calls say of the rehearsal set
+-- what the calls say of the examples
 pub record Answers : Type 0 where
   pub block : Read (List Test)
   pub at-nine : Read (Option (List ℤ))
@@ -133,7 +134,7 @@ computed = record {
   eighth = step-after 7 (woven-file 10);
 }
 
--- as the rehearsal set has them
+-- as they were worked out by hand
 abbrev pub expected : Answers
 expected = record {
   block = Ok (Marg 0 0 ∷ Mset 1 (pos 10) ∷ Op 0 Less ∷ Skz 0 5 ∷ Mcell 0 0 ∷ Marg 1 0 ∷ Op 0 Plus ∷ Store 0 0 ∷ Skip 1 ∷ Viol ∷ []);
@@ -153,3 +154,7 @@ expected = record {
   seventh = Ok Outcome.Stop;
   eighth = refuse MachineStopped;
 }
+
+-- the definitions give what was worked out by hand
+abbrev pub Worked : Type 0
+Worked = computed ≡ expected
