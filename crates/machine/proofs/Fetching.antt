@@ -1,6 +1,7 @@
 -- The instruction at an index of a method's code.
 use mathlib.Core.Path.{_≡_, refl, sym, ap, _∙_}
 use mathlib.Core.Bool.{true}
+use lib.Dec.{leb}
 use mathlib.Core.List.{List, [], _∷_, map}
 use Prim.Native.Nat.{ℕ, zero, suc, _+_, _*_, _<_, _≤_}
 use native.Mathlib.Omega.{arith}
@@ -9,7 +10,7 @@ use lib.ListN.{length, getD}
 use Rattle.std.specs.shelf.Lists.{All}
 use Rattle.std.specs.Options.{Cases, mapped}
 use Rattle.model.specs.Fields.{contents-at}
-use Rattle.std.proofs.shelf.Tests.{and-parts, ltb-true, cond-both}
+use Rattle.std.proofs.shelf.Tests.{and-parts, ltb-true, leb-true, leb-false, cond-both}
 use Rattle.std.specs.declared.option.Option.{Option}
 use Rattle.std.specs.declared.option.Option.the-variants.{Some, None}
 use Rattle.model.specs.declared.Instr.{Instr}
@@ -17,7 +18,7 @@ use Rattle.model.specs.declared.Own.{Own}
 use Rattle.model.specs.Words.{Quad, quads, quad-at, word, Entry, table, find, limit, fits, made, decode}
 use Rattle.model.proofs.Options.{none-some}
 use Rattle.model.proofs.Words.{found}
-use Rattle.applet.specs.Applets.{or-end, code-in, nth}
+use Rattle.applet.specs.Applets.{or-end, code-in, nth, quad-in}
 use Rattle.machine.specs.Ranges.{Valid}
 
 -- four bytes further on
@@ -31,10 +32,10 @@ behind-four a b c d r p =
     λ i. record { a = getD xs (e i) 0; b = getD xs (f i) 0; c = getD xs (g i) 0; d = getD xs (h i) 0 }
 
 module _ (n : ℕ) where
-  abbrev pub code-of : List ℕ → List Instr
+  abbrev code-of : List ℕ → List Instr
   code-of xs = map (λ q. or-end (decode n q)) (quads xs)
 
-  pub inside : (xs : List ℕ) (i : ℕ) → 4 * i + 4 ≤ length xs → or-end (decode n (quad-at xs (4 * i))) ≡ getD (code-of xs) i (Instr.Own Own.End)
+  inside : (xs : List ℕ) (i : ℕ) → 4 * i + 4 ≤ length xs → or-end (decode n (quad-at xs (4 * i))) ≡ getD (code-of xs) i (Instr.Own Own.End)
   inside [] i h = absurd (omega arith)
   inside (a ∷ []) i h = absurd (omega arith)
   inside (a ∷ b ∷ []) i h = absurd (omega arith)
@@ -46,7 +47,7 @@ module _ (n : ℕ) where
       ∙ ap (λ (q : Quad). or-end (decode n q)) (behind-four a b c d r (4 * i))
       ∙ inside r i (omega arith)
 
-  pub outside : (xs : List ℕ) (i : ℕ) → length xs < 4 * i + 4 → Instr.Own Own.End ≡ getD (code-of xs) i (Instr.Own Own.End)
+  outside : (xs : List ℕ) (i : ℕ) → length xs < 4 * i + 4 → Instr.Own Own.End ≡ getD (code-of xs) i (Instr.Own Own.End)
   outside [] i h = refl
   outside (a ∷ []) i h = refl
   outside (a ∷ b ∷ []) i h = refl
@@ -81,22 +82,36 @@ module _ (n : ℕ) (q : Quad) (i : Instr) where
   unfolding decode
   valid p = valid-by (find (q .a) table) refl p
 
-pub valid-all : (n k l : ℕ) (q : Quad) (o : Option Instr) → o ≡ decode n q → k ≤ l → Cases o (Unit {0}) (λ i. Valid i × (k ≤ l))
-valid-all n k l q None e h = tt
-valid-all n k l q (Some i) e h = (valid n q i (sym e), h)
+pub valid-low : (n i : ℕ) (q : Quad) (o : Option Instr) → o ≡ decode n q → i < 16384 → Cases o (Unit {0}) (λ x. Valid x × (i < 65536))
+valid-low n i q None e h = tt
+valid-low n i q (Some x) e h = (valid n q x (sym e), omega arith)
 
--- the code of method m, at its place in file f
-pub code-some : (f ps : List ℕ) (n m : ℕ) (c : List ℕ) → Some c ≡ mapped (contents-at f) (nth ps m) → getD (map (code-in f n) ps) m [] ≡ code-of n c
-code-some f [] n m c e = absurd (none-some (sym e))
-code-some f (p ∷ ps) n zero c e = let z : contents-at f p ≡ c = cc in ap (code-of n) z
-code-some f (p ∷ ps) n (suc m) c e = code-some f ps n m c e
+-- four bytes of code c at index i
+quad-here : (n i : ℕ) (c b : List ℕ) → Some b ≡ quad-in (Some c) i → or-end (decode n (quad-at b 0)) ≡ getD (code-of n c) i (Instr.Own Own.End)
+quad-here n i c b e =
+    cond-both (leb (4 * i + 4) (length c)) (Some (getD c (4 * i) 0 ∷ getD c (4 * i + 1) 0 ∷ getD c (4 * i + 2) 0 ∷ getD c (4 * i + 3) 0 ∷ [])) None
+    (λ r. Some b ≡ r → or-end (decode n (quad-at b 0)) ≡ getD (code-of n c) i (Instr.Own Own.End))
+    (
+    λ t h.
+    let z : b ≡ getD c (4 * i) 0 ∷ getD c (4 * i + 1) 0 ∷ getD c (4 * i + 2) 0 ∷ getD c (4 * i + 3) 0 ∷ [] = cc in
+    ap (λ (x : List ℕ). or-end (decode n (quad-at x 0))) z ∙ inside n c i (leb-true _ _ t)
+    )
+    (λ t h. absurd (none-some (sym h))) e
 
-pub code-none : (f ps : List ℕ) (n m : ℕ) → None ≡ mapped (contents-at f) (nth ps m) → getD (map (code-in f n) ps) m [] ≡ []
-code-none f [] n m e = refl
-code-none f (p ∷ ps) n zero e = absurd (none-some e)
-code-none f (p ∷ ps) n (suc m) e = code-none f ps n m e
+quad-past : (n i : ℕ) (c : List ℕ) → None ≡ quad-in (Some c) i → Instr.Own Own.End ≡ getD (code-of n c) i (Instr.Own Own.End)
+quad-past n i c e =
+    cond-both (leb (4 * i + 4) (length c)) (Some (getD c (4 * i) 0 ∷ getD c (4 * i + 1) 0 ∷ getD c (4 * i + 2) 0 ∷ getD c (4 * i + 3) 0 ∷ [])) None
+    (λ r. None ≡ r → Instr.Own Own.End ≡ getD (code-of n c) i (Instr.Own Own.End))
+    (λ t h. absurd (none-some h)) (λ t h. outside n c i (leb-false _ _ t)) e
 
--- the index of an instruction in code of at most 65,535 bytes
-pub low-index : (i l : ℕ) (o : Option Instr) → l ≤ 65535 → Cases o (Unit {0}) (λ x. Valid x × (4 * i + 4 ≤ l)) → Cases o (Unit {0}) (λ x. Valid x × (i < 65536))
-low-index i l None h k = tt
-low-index i l (Some x) h k = (k .0, omega arith)
+-- at index i of method m, whose code stands in file f
+pub quad-some : (f ps : List ℕ) (n m i : ℕ) (b : List ℕ) → Some b ≡ quad-in (mapped (contents-at f) (nth ps m)) i →
+    or-end (decode n (quad-at b 0)) ≡ getD (getD (map (code-in f n) ps) m []) i (Instr.Own Own.End)
+quad-some f [] n m i b e = absurd (none-some (sym e))
+quad-some f (p ∷ ps) n zero i b e = quad-here n i (contents-at f p) b e
+quad-some f (p ∷ ps) n (suc m) i b e = quad-some f ps n m i b e
+
+pub quad-none : (f ps : List ℕ) (n m i : ℕ) → None ≡ quad-in (mapped (contents-at f) (nth ps m)) i → Instr.Own Own.End ≡ getD (getD (map (code-in f n) ps) m []) i (Instr.Own Own.End)
+quad-none f [] n m i e = refl
+quad-none f (p ∷ ps) n zero i e = quad-past n i (contents-at f p) e
+quad-none f (p ∷ ps) n (suc m) i e = quad-none f ps n m i e

@@ -1,13 +1,10 @@
-use mathlib.Core.Path.{_≡_, refl, sym, ap, _∙_}
-use mathlib.Core.List.{List}
+use mathlib.Core.Path.{_≡_, sym, ap, _∙_}
 use Prim.Native.Nat.{ℕ}
-use lib.ListN.{length, getD}
+use lib.ListN.{length, length-map}
 use denote.Ref.{now}
-use Rattle.std.proofs.shelf.Lists.{length-map}
-use Rattle.model.specs.declared.Instr.{Instr}
-use Rattle.model.specs.declared.Own.{Own}
-use Rattle.applet.specs.Applets.{places-of, code-in}
-use Rattle.machine.proofs.Fetching.{code-of, code-some, code-none, low-index}
+use Rattle.model.specs.Words.{quad-at, decode}
+use Rattle.applet.specs.Applets.{places-of, code-in, or-end}
+use Rattle.machine.proofs.Fetching.{quad-some, quad-none, valid-low}
 use Rattle.machine.proofs.code.fetch.Needs as need
 
 pub returns-in-Some : need.returns-in-Some
@@ -16,21 +13,18 @@ returns-in-Some c =
     let f = now (a .file) in
     let ps = places-of a in
     let s = c .args .at in
-    let b = now (c .in-Some .code) in
+    let b = c .in-Some .bytes in
     let n : c .methods .result ≡ length ps = c .methods .ensures ∙ length-map ps (code-in f (length ps)) in
     record {
       value =
-          c .instr-at .ensures .value
-          ∙ ap (λ (k : ℕ). getD (code-of k b) (s .index) (Instr.Own Own.End)) n
-          ∙ sym (ap (λ (cs : List Instr). getD cs (s .index) (Instr.Own Own.End)) (code-some f ps (length ps) (s .method) b (c .in-Some .ensures tt .value)));
-      valid = low-index (s .index) (length b) (c .instr-at .result) (c .in-Some .ensures tt .size) (c .instr-at .ensures .valid);
+          ap or-end (c .decode .ensures .value)
+          ∙ ap (λ (k : ℕ). or-end (decode k (quad-at b 0))) n
+          ∙ quad-some f ps (length ps) (s .method) (s .index) b (c .in-Some .ensures tt .value);
+      valid = valid-low (c .methods .result) (s .index) (quad-at b 0) (c .decode .result) (c .decode .ensures .value) (c .in-Some .ensures tt .low);
     }
 
 pub returns-in-None : need.returns-in-None
 returns-in-None c =
     let a = c .args .applet .now in
     let ps = places-of a in
-    record {
-      value = sym (ap (λ (cs : List Instr). getD cs (c .args .at .index) (Instr.Own Own.End)) (code-none (now (a .file)) ps (length ps) (c .args .at .method) (c .in-None .ensures tt .value)));
-      valid = tt;
-    }
+    record { value = quad-none (now (a .file)) ps (length ps) (c .args .at .method) (c .args .at .index) (c .in-None .ensures tt .value); valid = tt }
