@@ -1,0 +1,4 @@
+-- bytes written one after the other
+pub mod Writes
+-- the calls on any policy, by the tests before them
+pub mod Asked
