@@ -2,3 +2,5 @@
 pub mod Writes
 -- the calls on any policy, by the tests before them
 pub mod Asked
+-- rows of state tables, their steps and their blocks
+pub mod TableRows

@@ -8,6 +8,9 @@ use model::Verdict;
 
 mod blocks;
 mod calls;
+mod table;
+
+pub use table::Table;
 
 // A policy: an automaton over a row of cells that takes or refuses events, and for each call and
 // moment a block of instructions that does what the step says. Every call answers for every input.
