@@ -23,11 +23,11 @@ use Rattle.model.specs.Calls.{verdict-of, row-behind, step-answer, row-after, b
 use Rattle.policy.specs.Calls.{may-start, may-step, may-write}
 
 -- a refusal is no answer
-clash : {X Y : Type 0} {x : Refusal} {a : X} → Err x ≡ Ok a → Y
+pub clash : {X Y : Type 0} {x : Refusal} {a : X} → Err x ≡ Ok a → Y
 clash h = absurd (let z : _≡_ {A = ℕ} 0 1 = cc in omega arith)
 
 -- the same refusal of another call
-same : {X Y : Type 0} {x y : Refusal} → _≡_ {A = Read X} (Err x) (Err y) → _≡_ {A = Read Y} (Err x) (Err y)
+pub same : {X Y : Type 0} {x y : Refusal} → _≡_ {A = Read X} (Err x) (Err y) → _≡_ {A = Read Y} (Err x) (Err y)
 same {x = x} {y = y} h = let z : x ≡ y = cc in ap Err z
 
 -- ---- whether a call is watched

@@ -4,3 +4,5 @@ pub mod Writes
 pub mod Asked
 -- rows of state tables, their steps and their blocks
 pub mod TableRows
+-- the calls on a pair
+pub mod Pairs

@@ -1,11 +1,12 @@
 -- What the calls on any policy refuse before the policy itself is asked, and bytes written at a place of an area.
-use mathlib.Core.Bool.{cond, _||_}
+use mathlib.Core.Bool.{Bool, true, false, cond, _||_}
 use mathlib.Core.List.{List, _++_}
 use Prim.Native.Nat.{ℕ, _+_, _*_}
 use lib.Dec.{eqb, leb}
 use lib.ListN.{length, take, drop}
 use Rattle.std.specs.declared.result.Result.the-variants.{Ok, Err}
 use Rattle.model.specs.declared.Refusal.the-variants.{AreaTooShort, NoSuchEvent, BlockTooLong, TooManyCells}
+use Rattle.model.specs.declared.Verdict.{Verdict}
 use Rattle.model.specs.Fields.{Read}
 
 -- a policy of w cells, in a row of so many
@@ -26,3 +27,9 @@ may-write k w f n room =
 -- bytes written at a place of an area
 abbrev pub put-at : List ℕ → ℕ → List ℕ → List ℕ
 put-at area at bytes = take at area ++ (bytes ++ drop (at + length bytes) area)
+
+-- a step's answer says that the event is taken
+abbrev pub is-taken : Read Verdict → Bool
+is-taken (Ok Verdict.Taken) = true
+is-taken (Ok Verdict.Refused) = false
+is-taken (Err r) = false

@@ -8,9 +8,13 @@ use model::Verdict;
 
 mod blocks;
 mod calls;
+mod pair;
 mod table;
 
+pub use pair::Pair;
+pub use pair::PairPolicy;
 pub use table::Table;
+pub use table::TablePolicy;
 
 // A policy: an automaton over a row of cells that takes or refuses events, and for each call and
 // moment a block of instructions that does what the step says. Every call answers for every input.
