@@ -6,3 +6,5 @@ pub mod Asked
 pub mod TableRows
 -- the calls on a pair
 pub mod Pairs
+-- the limits of a policy
+pub mod WithinLimits

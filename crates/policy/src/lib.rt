@@ -7,10 +7,12 @@ use model::Refusal;
 use model::Verdict;
 
 mod blocks;
+mod bounds;
 mod calls;
 mod pair;
 mod table;
 
+pub use bounds::limits;
 pub use pair::Pair;
 pub use pair::PairPolicy;
 pub use table::Table;

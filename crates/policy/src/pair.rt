@@ -60,6 +60,15 @@ fn write_behind<P: Policy>(p: &P, call: u8, moment: Moment, first: u8, area: &mu
     let _ = p.write_block(call, moment, first, &mut area[at..]);
 }
 
+impl<P, Q> Pair<P, Q> {
+    // The pair of two policies; `limits` says whether it is within the limits.
+    pub fn new(first: P, second: Q) -> Pair<P, Q>
+        ensures { λ r. ⌜ r ≡ record { first = first; second = second } ⌝ }
+    {
+        Pair { first, second }
+    }
+}
+
 impl<P: Policy, Q: Policy> Pair<P, Q> {
     // Both steps on a copy of the cells, of which the first has `a` and both have `w`.
     fn step_both(
