@@ -8,3 +8,5 @@ pub mod TableRows
 pub mod Pairs
 -- the limits of a policy
 pub mod WithinLimits
+-- the calls on a watch
+pub mod Watched

@@ -11,12 +11,14 @@ mod bounds;
 mod calls;
 mod pair;
 mod table;
+mod watch;
 
 pub use bounds::limits;
 pub use pair::Pair;
 pub use pair::PairPolicy;
 pub use table::Table;
 pub use table::TablePolicy;
+pub use watch::Watch;
 
 // A policy: an automaton over a row of cells that takes or refuses events, and for each call and
 // moment a block of instructions that does what the step says. Every call answers for every input.
