@@ -152,6 +152,10 @@ refusing-rows (suc n) k = refusing-row k ∷ refusing-rows n (k + 1)
 abbrev pub refusing-table : Table
 refusing-table = record { states = 1; start = 0; rows = refusing-rows 64 0 }
 
+-- what reading a state table answers
+abbrev pub table-answer : List ℕ → Read (Unit {0})
+table-answer f = read-table f >>= (λ t. Ok tt)
+
 -- a file reads as a state table
 abbrev pub reads-table : List ℕ → Bool
 reads-table f = isOk (read-table f)

@@ -10,6 +10,7 @@ mod blocks;
 mod bounds;
 mod calls;
 mod pair;
+mod reader;
 mod table;
 mod watch;
 

@@ -27,7 +27,7 @@ use model::Test;
 use model::Verdict;
 
 // In a row, by state, the next state, or this where the event is refused.
-const REFUSED: u8 = 255;
+pub const REFUSED: u8 = 255;
 
 // A state table: one cell, which holds the state.
 #[derive(Drop)]
@@ -48,7 +48,7 @@ fn is_moment(n: u8, moment: Moment) -> bool
 }
 
 // Whether a row is for that call and moment.
-fn is_row_for(row: &[u8], call: u8, moment: Moment) -> bool
+pub fn is_row_for(row: &[u8], call: u8, moment: Moment) -> bool
     requires { ⌜ 2 ≤ length (now row) ⌝ }
     ensures { λ r. ⌜ r ≡ row-for call moment (row-in (now (row .entry))) ⌝ }
 {
