@@ -41,6 +41,7 @@ pub mod PolicyRoundTrip
 pub mod PolicyAccepted
 pub mod EnforcedPolicies
 pub mod TableFiles
+pub mod PolicyKinds
 -- the calls on a policy, and the watch
 pub mod Rows
 pub mod Watch

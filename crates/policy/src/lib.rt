@@ -9,12 +9,14 @@ use model::Verdict;
 mod blocks;
 mod bounds;
 mod calls;
+mod kind;
 mod pair;
 mod reader;
 mod table;
 mod watch;
 
 pub use bounds::limits;
+pub use kind::policy_kind;
 pub use pair::Pair;
 pub use pair::PairPolicy;
 pub use table::Table;
