@@ -40,6 +40,8 @@ pub mod PairBlocks
 pub mod PolicyRoundTrip
 pub mod PolicyAccepted
 pub mod EnforcedPolicies
+pub mod TableFiles
+pub mod PolicyKinds
 -- the calls on a policy, and the watch
 pub mod Rows
 pub mod Watch
