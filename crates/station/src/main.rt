@@ -1,5 +1,6 @@
 // The command line for planners.
 mod list;
+mod policies;
 mod run;
 mod scripts;
 mod words;
