@@ -1,11 +1,9 @@
 // The machine: load, step, answer.
 ghost use mathlib.Core.Path.{_≡_};
-ghost use Prim.Native.Nat.{ℕ, _≤_, _<_};
-ghost use lib.ListN.{length};
+ghost use Prim.Native.Nat.{_<_};
 ghost use Rattle.model.specs.Machine.{step as stepping, answer as answering};
 ghost use Rattle.model.specs.Runs.{after};
 ghost use Rattle.model.specs.Files.{load-file};
-ghost use Rattle.applet.specs.Applets.{meant};
 ghost use Rattle.machine.specs.Views.{machine-of, said};
 ghost use Rattle.machine.specs.Machines.{load-seen, program, holds-now, replied};
 use crate::code::fetch;

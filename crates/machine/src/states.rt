@@ -1,13 +1,11 @@
 // The state of a machine: threads, shared numbers, cells, scratch numbers, arguments and the lock.
 ghost use mathlib.Core.Path.{_≡_};
-ghost use Prim.Native.Nat.{ℕ, _+_, _≤_, _<_};
+ghost use Prim.Native.Nat.{_+_, _≤_, _<_};
 ghost use mathlib.Core.List.{_++_};
 ghost use lib.Dec.{ltb};
 ghost use Rattle.std.specs.Vec.{made};
-ghost use lib.ListN.{length, getD, set, drop};
-ghost use Rattle.model.specs.declared.Status.the-variants.{Ready as IsReady};
-ghost use Rattle.model.specs.Machine.{run-instr, thread as nth-thread, lock-step, unlock-step, holds, test-step, own-step, local};
-ghost use Rattle.model.specs.Policy.{turn as turning};
+ghost use lib.ListN.{length, drop};
+ghost use Rattle.model.specs.Machine.{run-instr, thread as nth-thread, lock-step, unlock-step, holds, local};
 ghost use Rattle.model.specs.Runs.{after};
 ghost use Rattle.std.specs.declared.result.Result.the-variants.{Ok};
 ghost use Rattle.machine.specs.Ranges.{OwnValid, TestValid, Valid};

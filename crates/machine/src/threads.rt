@@ -1,12 +1,12 @@
 // Threads: their frames and registers.
 ghost use mathlib.Core.Path.{_≡_};
-ghost use mathlib.Core.List.{List, _++_};
-ghost use Prim.Native.Nat.{ℕ, _+_, _≤_, _<_, min};
-ghost use lib.ListN.{length, getD, set, take};
-ghost use lib.IntN.{ℤ, pos};
+ghost use mathlib.Core.List.{List};
+ghost use Prim.Native.Nat.{_+_, _<_, min};
+ghost use lib.ListN.{length, take};
+ghost use lib.IntN.{ℤ};
 ghost use Rattle.std.specs.Vec.{made};
 ghost use Rattle.model.specs.declared.Status.the-variants.{Ready as IsReady, Awaiting as IsAwaiting, Ended as IsEnded};
-ghost use Rattle.model.specs.Machine.{reg as reg-of, goto as going, write as writing, with-top, with-status, onward, enter as entered, zeros, local};
+ghost use Rattle.model.specs.Machine.{reg as reg-of, goto as going, write as writing, with-top, with-status, onward, enter as entered, local};
 ghost use Rattle.machine.specs.Ranges.{OwnValid};
 ghost use Rattle.machine.specs.Views.{waiting, thread-of, ready-by, awaiting-by, going-on};
 use crate::numbers::add;
