@@ -15,13 +15,9 @@ use Rattle.std.proofs.shelf.Ways.{tells}
 use Rattle.model.specs.Words.{find, table}
 use Rattle.applet.specs.declared.table.Entry.{Entry}
 use Rattle.applet.specs.Table.{Row, row, ranges, no-row}
+use Rattle.applet.specs.Limits.{upto}
 
--- n numbers from k on
-abbrev upto : ℕ → ℕ → List ℕ
-upto zero k = []
-upto (suc n) k = k ∷ upto n (suc k)
-
-getD-upto : {X : Type 0} (f : ℕ → X) (n k i : ℕ) (d : X) → i < n → getD (map f (upto n k)) i d ≡ f (k + i)
+pub getD-upto : {X : Type 0} (f : ℕ → X) (n k i : ℕ) (d : X) → i < n → getD (map f (upto n k)) i d ≡ f (k + i)
 getD-upto f zero k i d h = absurd (omega arith)
 getD-upto f (suc n) k zero d h = ap f (sym (add-zero k))
 getD-upto f (suc n) k (suc i) d h = getD-upto f n (suc k) i d (omega arith) ∙ ap f (omega arith)

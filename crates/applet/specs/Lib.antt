@@ -8,3 +8,5 @@ pub mod Instructions
 pub mod Stages
 -- an applet that was read
 pub mod Applets
+-- limits of operands, by which most instructions are cleared
+pub mod Limits

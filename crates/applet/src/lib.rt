@@ -1,4 +1,5 @@
 // Applet files: their fields, their instructions, and the reader.
+mod limits;
 mod reader;
 mod rows;
 mod table;

@@ -7,12 +7,16 @@ ghost use Rattle.std.specs.Vec.{made};
 ghost use Rattle.std.specs.Options.{mapped};
 ghost use Rattle.std.specs.declared.option.Option.the-variants.{Some};
 ghost use Rattle.applet.specs.Table.{row};
+ghost use Rattle.applet.specs.Limits.{limits-of};
 ghost use Rattle.std.specs.declared.result.Result.the-variants.{Ok};
 ghost use Rattle.model.specs.Words.{quads, quad-at, decode, signed-of};
 ghost use Rattle.model.specs.Reading.{landed, read-applet};
 ghost use Rattle.model.specs.Fields.{standing, behind, every, contents-at};
 ghost use Rattle.applet.specs.Applets.{found, found-in, meant, read-seen, Placed, nth, places-of, shown};
 ghost use Rattle.applet.specs.Stages.{staged, head-of, entries-of, cells-of, method-of, due-at, places-from, places-in, row-judged, passed, judged, codes-judged};
+use crate::limits::Limit;
+use crate::limits::limit_of;
+use crate::limits::limits_for;
 use crate::rows::Fields;
 use crate::rows::Part;
 use crate::table::Entry;
@@ -162,15 +166,29 @@ fn judge_by(
     Ok(())
 }
 
-// One instruction of a method's code, at its index and place.
-fn judge(code: &[u8], index: u16, size: u16, methods: u8, place: usize) -> Result<(), Refusal>
-    requires { ⌜ 4 * index + 4 ≤ length (now code) ⌝ }
+// One instruction of a method's code, at its index and place. Most are cleared by the limits of their
+// opcode; the last one, and one that they do not clear, is judged by its row.
+fn judge(
+    code: &[u8],
+    index: u16,
+    size: u16,
+    methods: u8,
+    place: usize,
+    limits: &[Limit; 42],
+) -> Result<(), Refusal>
+    requires limits { ⌜ now limits ≡ limits-of methods size ⌝ }
+    requires inside { ⌜ 4 * index + 4 ≤ length (now code) ⌝ }
     ensures { λ r. ⌜ r ≡ passed (landed size index place (decode methods (quad-at (now (code .entry)) (4 * index)))) (Ok tt) ⌝ }
 {
     let at = 4 * index as usize;
+    let x = code[at + 1];
     let y = code[at + 2] as u16 * 256 + code[at + 3] as u16;
+    let limit = limit_of(limits, code[at]);
+    if (index as u32) + 1 < size as u32 && limit.clears(x, y, index) {
+        return Ok(());
+    }
     match look_up(code[at]) {
-        Some(e) => judge_by(&e, code[at + 1], y, index, size, methods, place),
+        Some(e) => judge_by(&e, x, y, index, size, methods, place),
         None => Err(Refusal::BadInstruction(place)),
     }
 }
@@ -182,8 +200,16 @@ fn judge_code(code: &[u8], methods: u8, place: usize) -> Result<(), Refusal>
     ensures { λ r. ⌜ r ≡ judged methods (length (quads (now (code .entry)))) 0 place (quads (now (code .entry))) ⌝ }
 {
     let size = (code.len() / 4) as u16;
+    let limits = limits_for(methods, size);
     for index in 0..size {
-        judge(code, index, size, methods, place + 4 * index as usize)?;
+        judge(
+            code,
+            index,
+            size,
+            methods,
+            place + 4 * index as usize,
+            &limits,
+        )?;
     }
     Ok(())
 }
