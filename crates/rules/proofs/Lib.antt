@@ -1,0 +1,2 @@
+-- tokens and expressions
+pub mod Expressions

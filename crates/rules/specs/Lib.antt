@@ -1,0 +1,2 @@
+-- tokens of expressions
+pub mod Tokens

@@ -1,0 +1,4 @@
+// Rule policies over the bytes of their files: the reader, the step and the blocks.
+mod tokens;
+
+pub use tokens::Token;
