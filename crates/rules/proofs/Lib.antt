@@ -1,2 +1,4 @@
 -- tokens and expressions
 pub mod Expressions
+-- fields
+pub mod Places

@@ -1,2 +1,4 @@
 -- tokens of expressions
 pub mod Tokens
+-- fields
+pub mod Pieces

@@ -1,4 +1,5 @@
 // Rule policies over the bytes of their files: the reader, the step and the blocks.
+mod pieces;
 mod tokens;
 
 pub use tokens::Token;
