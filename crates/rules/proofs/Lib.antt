@@ -2,3 +2,5 @@
 pub mod Expressions
 -- fields
 pub mod Places
+-- the reader's loops
+pub mod Reading

@@ -2,3 +2,5 @@
 pub mod Tokens
 -- fields
 pub mod Pieces
+-- what the reader finds on its way
+pub mod Reader
