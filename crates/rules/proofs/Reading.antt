@@ -2,20 +2,23 @@
 use mathlib.Core.Path.{_≡_, refl, sym, ap, ap₂, _∙_, subst₂}
 use mathlib.Core.Bool.{Bool, true, false}
 use mathlib.Core.List.{List, [], _∷_}
-use Prim.Native.Nat.{ℕ, zero, suc, _+_, _-_, _<_, _≤_}
+use Prim.Native.Nat.{ℕ, zero, suc, _+_, _-_, _*_, _<_, _≤_}
 use native.Mathlib.Omega.{arith}
-use lib.ListN.{length, take, drop}
+use lib.ListN.{length, getD, take, drop}
 use Rattle.std.specs.declared.option.Option.{Option}
 use Rattle.std.specs.declared.option.Option.the-variants.{Some, None}
 use Rattle.std.specs.declared.result.Result.the-variants.{Ok, Err}
-use Rattle.std.proofs.shelf.Lists.{length-drop, drop-take, drop-all}
+use Rattle.std.proofs.shelf.Lists.{length-drop, drop-take, drop-all, drop-drop}
+use Rattle.std.proofs.shelf.Tests.{le-leb, lt-leb, eq-eqb, ne-eqb}
 use Rattle.model.specs.declared.Refusal.{Refusal}
 use Rattle.model.specs.declared.Refusal.the-variants.{BadPolicyField, BadPolicySize}
 use Rattle.model.specs.Fields.{Read, Part, Field, a-tag, announced, next, expect, fields, _>>=_, _>>_}
-use Rattle.model.specs.Rules.{update-field}
+use Rattle.model.specs.Rules.{Raw, triples, update-field, rule-field}
+use Rattle.model.specs.Policy.{arguments}
+use Rattle.model.specs.Moments.{moment-of}
 use Rattle.model.proofs.Parts.{parts-of-files}
 use Rattle.rules.specs.Pieces.{Found, piece-of}
-use Rattle.rules.specs.Reader.{earlier, first-of, bad-expr, bad-update, one-bad, faulty, updating}
+use Rattle.rules.specs.Reader.{earlier, first-of, bad-expr, bad-update, bad-rule, one-bad, faulty, updating, headed, heading, opened}
 
 -- ---- a field that was handed out
 
@@ -147,3 +150,81 @@ update-bad n a p c e = rw e
 pub update-good : (n a p : ℕ) (c : List ℕ) → updating n c ≡ true → one-bad (bad-update n a) (update-field n p c) ≡ Ok (bad-expr n a p (drop 1 c))
 unfolding _>>=_
 update-good n a p c e = rw e
+
+-- ---- rules
+
+-- what is found in the updates, behind a guard
+abbrev pub behind-guard : Option ℕ → Read (Option ℕ) → Read (Option ℕ)
+behind-guard b (Ok o) = Ok (earlier b o)
+behind-guard b (Err e) = Err e
+
+module _ (n p : ℕ) (h : List ℕ) where
+  -- the contents of the rule
+  abbrev inner : List ℕ
+  inner = drop (p + 3) h
+
+  past-head : drop 2 inner ≡ drop (p + 5) h
+  past-head = let j : p + 3 + 2 ≡ p + 5 = omega arith in drop-drop 2 (p + 3) h ∙ ap (λ k. drop k h) j
+
+  pub rule-unheaded : headed inner ≡ false → one-bad (bad-rule n) (rule-field n p inner) ≡ Err (BadPolicySize p)
+  unfolding _>>=_
+  rule-unheaded e = rw e
+
+  module _ (e : headed inner ≡ true) where
+    pub rule-unguarded : (x : Refusal) → Err x ≡ piece-of (expect BadPolicyField 68 (p + 5) (drop (p + 5) h)) → one-bad (bad-rule n) (rule-field n p inner) ≡ Err x
+    unfolding _>>=_
+    rule-unguarded x q =
+        let k : expect BadPolicyField 68 (p + 5) (drop 2 inner) ≡ Err x = ap (expect BadPolicyField 68 (p + 5)) past-head ∙ not-here h 68 (p + 5) x q in
+        rw (e, k)
+
+    module _ (c : List ℕ) (m : ℕ) (w : Here h 68 (p + 5) c m) where
+      guarded : expect BadPolicyField 68 (p + 5) (drop 2 inner) ≡ Ok (record { place = p + 5; contents = c; rest = drop m h })
+      guarded = ap (expect BadPolicyField 68 (p + 5)) past-head ∙ w .met
+
+      pub rule-missized : triples 1 32 c ≡ false → one-bad (bad-rule n) (rule-field n p inner) ≡ Err (BadPolicySize (p + 5))
+      unfolding _>>=_
+      rule-missized t = rw (e, guarded, t)
+
+      pub rule-rest : triples 1 32 c ≡ true →
+          one-bad (bad-rule n) (rule-field n p inner)
+          ≡ behind-guard (bad-expr n (arguments (moment-of (getD inner 1 0))) (p + 5) c)
+          (faulty (bad-update n (arguments (moment-of (getD inner 1 0)))) None (fields 8 69 (update-field n) m (drop m h)))
+      unfolding _>>=_
+      rule-rest t = rw (e, guarded, t, sym (w .behind)) (go (fields 8 69 (update-field n) m (drop m h)))
+        where
+          go : (r : Read (List Field)) →
+              one-bad (bad-rule n) (r >>= (λ us. Ok (record { call = getD inner 0 0; moment = moment-of (getD inner 1 0); guard = record { place = p + 5; contents = c }; updates = us })))
+              ≡ behind-guard (bad-expr n (arguments (moment-of (getD inner 1 0))) (p + 5) c) (faulty (bad-update n (arguments (moment-of (getD inner 1 0)))) None r)
+          go (Ok us) = refl
+          go (Err x) = refl
+
+-- ---- how a file begins
+
+module _ (f : List ℕ) where
+  pub too-long : 65535 < length f → opened f ≡ Err (BadPolicyField 0)
+  unfolding _>>=_
+  too-long l = rw (lt-leb (length f) 65535 l)
+
+  module _ (l : length f ≤ 65535) where
+    pub unheaded : (x : Refusal) → Err x ≡ piece-of (expect BadPolicyField 65 0 (drop 0 f)) → opened f ≡ Err x
+    unfolding _>>=_
+    unheaded x e = rw (le-leb (length f) 65535 l, not-here f 65 0 x e)
+
+    module _ (c : List ℕ) (m : ℕ) (w : Here f 65 0 c m) where
+      pub misheaded : heading c ≡ false → opened f ≡ Err (BadPolicySize 0)
+      unfolding _>>=_
+      misheaded t = rw (le-leb (length f) 65535 l, w .met, t)
+
+      module _ (t : heading c ≡ true) where
+        pub unstarted : (x : Refusal) → Err x ≡ piece-of (expect BadPolicyField 66 m (drop m f)) → opened f ≡ Err x
+        unfolding _>>=_
+        unstarted x e = rw (le-leb (length f) 65535 l, w .met, t, sym (w .behind), not-here f 66 m x e)
+
+        module _ (d : List ℕ) (k : ℕ) (v : Here f 66 m d k) where
+          pub misstarted : (length d ≡ 4 * getD c 1 0 → ⊥) → opened f ≡ Err (BadPolicySize m)
+          unfolding _>>=_
+          misstarted s = rw (le-leb (length f) 65535 l, w .met, t, sym (w .behind), v .met, ne-eqb (length d) (4 * getD c 1 0) s)
+
+          pub started : length d ≡ 4 * getD c 1 0 → opened f ≡ Ok (record { cells = getD c 1 0; rules = k })
+          unfolding _>>=_
+          started s = rw (le-leb (length f) 65535 l, w .met, t, sym (w .behind), v .met, eq-eqb (length d) (4 * getD c 1 0) s, sym (v .behind))

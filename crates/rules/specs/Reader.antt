@@ -1,17 +1,18 @@
 -- What the reader of rule policies finds on its way: refusals of fields, and the place of the first bad expression.
 use mathlib.Core.Bool.{Bool, cond, _&&_}
 use mathlib.Core.List.{List, [], _∷_}
-use Prim.Native.Nat.{ℕ}
-use lib.Dec.{leb, ltb}
+use Prim.Native.Nat.{ℕ, _*_}
+use lib.Dec.{eqb, leb, ltb}
 use lib.ListN.{length, getD, drop}
 use Rattle.std.specs.declared.option.Option.{Option}
 use Rattle.std.specs.declared.option.Option.the-variants.{Some, None}
 use Rattle.std.specs.declared.result.Result.the-variants.{Ok, Err}
-use Rattle.model.specs.declared.Refusal.the-variants.{BadExpression}
+use Rattle.model.specs.declared.Refusal.the-variants.{BadPolicyField, BadPolicySize, BadExpression}
 use Rattle.model.specs.Policy.{arguments}
-use Rattle.model.specs.Fields.{Read, Field, refuse}
-use Rattle.model.specs.Rules.{Raw, tokens, triples}
+use Rattle.model.specs.Fields.{Read, Field, refuse, need, expect, next, fields, _>>=_, _>>_}
+use Rattle.model.specs.Rules.{Rule, Raw, tokens, triples, rule-field, read-rule-list}
 use Rattle.rules.specs.Tokens.{well-held}
+use Rattle.rules.specs.declared.reader.Opening.{Opening}
 
 -- the first of two places, if there is any
 abbrev pub earlier : Option ℕ → Option ℕ → Option ℕ
@@ -57,3 +58,21 @@ updating n c = leb 1 (length c) && ltb (getD c 0 0) n && triples 1 32 (drop 1 c)
 abbrev pub told : Option ℕ → Read (Unit {0})
 told None = Ok tt
 told (Some p) = refuse (BadExpression p)
+
+-- the contents of the head: the format, and up to 16 cells
+abbrev pub heading : List ℕ → Bool
+heading c = eqb (length c) 2 && eqb (getD c 0 0) 1 && leb (getD c 1 0) 16
+
+-- how a file begins: the head and the start values
+abbrev pub opened : List ℕ → Read Opening
+opened f = do
+  need (leb (length f) 65535) (BadPolicyField 0)
+  h ← expect BadPolicyField 65 0 f
+  need (heading (h .contents)) (BadPolicySize 0)
+  s ← expect BadPolicyField 66 (next h) (h .rest)
+  need (eqb (length (s .contents)) (4 * getD (h .contents) 1 0)) (BadPolicySize (s .place))
+  Ok (record { cells = getD (h .contents) 1 0; rules = next s })
+
+-- the rules of a policy of n cells, from place p on
+abbrev pub rules-from : ℕ → ℕ → List ℕ → Read (List Rule)
+rules-from n p c = fields 64 67 (rule-field n) p c >>= read-rule-list n

@@ -6,13 +6,20 @@ ghost use Rattle.std.specs.declared.option.Option.the-variants.{None};
 ghost use Rattle.model.specs.Moments.{moment-of};
 ghost use Rattle.model.specs.Fields.{fields};
 ghost use Rattle.model.specs.Rules.{triples as sized, update-field, rule-field};
-ghost use Rattle.rules.specs.Reader.{earlier as sooner, bad-expr, bad-update, bad-rule, one-bad, faulty, headed as call-and-moment, updating as cell-and-tokens};
+ghost use Rattle.rules.specs.Reader.{earlier as sooner, bad-expr, bad-update, bad-rule, one-bad, faulty, headed as call-and-moment, updating as cell-and-tokens, heading as format-and-cells, opened};
 use crate::pieces::due;
 use crate::tokens::arguments;
 use crate::tokens::balanced;
 use applet::Part;
 use model::Moment;
 use model::Refusal;
+
+// How a rule policy begins: with so many cells, their start values, and then the rules.
+#[derive(Clone, Copy)]
+pub struct Opening {
+    pub cells: u8,
+    pub rules: usize,
+}
 
 // The first of two places, if there is any.
 fn earlier(a: Option<usize>, b: Option<usize>) -> Option<usize>
@@ -136,4 +143,33 @@ fn rules(file: &[u8], from: usize, cells: u8) -> Result<Option<usize>, Refusal>
         at = r.next;
     }
     Ok(bad)
+}
+
+// Whether the contents of the head are the format, 1, and up to 16 cells.
+fn heading(c: &[u8]) -> bool
+    ensures { λ r. ⌜ r ≡ format-and-cells (now (c .entry)) ⌝ }
+{
+    c.len() == 2 && c[0] == 1 && c[1] <= 16
+}
+
+// The head and the start values.
+pub fn open(file: &[u8]) -> Result<Opening, Refusal>
+    ensures { λ r. ⌜ r ≡ opened (now (file .entry)) ⌝ }
+{
+    if file.len() > 65535 {
+        return Err(Refusal::BadPolicyField(0));
+    }
+    let h = due(file, Part::RULES_HEAD, 0)?;
+    if !heading(h.contents) {
+        return Err(Refusal::BadPolicySize(0));
+    }
+    let cells = h.contents[1];
+    let s = due(file, Part::RULES_STARTS, h.next)?;
+    if s.contents.len() != 4 * cells as usize {
+        return Err(Refusal::BadPolicySize(h.next));
+    }
+    Ok(Opening {
+        cells,
+        rules: s.next,
+    })
 }
