@@ -4,3 +4,5 @@ pub mod Expressions
 pub mod Places
 -- the reader's loops
 pub mod Reading
+-- rules and updates as parts of a file
+pub mod Shown

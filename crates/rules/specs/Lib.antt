@@ -4,3 +4,5 @@ pub mod Tokens
 pub mod Pieces
 -- what the reader finds on its way
 pub mod Reader
+-- rules and updates as parts of a file
+pub mod Views

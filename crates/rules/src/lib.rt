@@ -2,5 +2,6 @@
 mod pieces;
 mod reader;
 mod tokens;
+mod views;
 
 pub use tokens::Token;

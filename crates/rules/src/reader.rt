@@ -31,7 +31,7 @@ fn earlier(a: Option<usize>, b: Option<usize>) -> Option<usize>
     }
 }
 
-fn moment(b: u8) -> Moment
+pub fn moment(b: u8) -> Moment
     ensures { λ r. ⌜ r ≡ moment-of b ⌝ }
 {
     match b {
