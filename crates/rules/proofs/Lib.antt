@@ -6,3 +6,5 @@ pub mod Places
 pub mod Reading
 -- rules and updates as parts of a file
 pub mod Shown
+-- how long blocks are
+pub mod Lengths

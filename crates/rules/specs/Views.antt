@@ -1,10 +1,11 @@
 -- Rules and updates as parts of a file that reads.
+use mathlib.Core.Path.{_≡_}
 use mathlib.Core.List.{List}
 use Prim.Native.Nat.{ℕ}
 use denote.Ref.{now}
-use Rattle.std.specs.shelf.Lists.{joined}
+use Rattle.std.specs.shelf.Lists.{All, joined}
 use Rattle.model.specs.declared.Moment.{Moment}
-use Rattle.model.specs.Rules.{Rule, Update, update-bytes, expr-bytes}
+use Rattle.model.specs.Rules.{Rule, Update, rule-bytes, update-bytes, expr-bytes, Valid-rule, Valid-update}
 use Rattle.rules.specs.declared.views.RuleView.{RuleView}
 use Rattle.rules.specs.declared.views.UpdateView.{UpdateView}
 
@@ -37,3 +38,11 @@ update-view v = record { cell = v .cell; value = now (v .value); rest = now (v .
 -- those of an update in front of the bytes z
 abbrev pub update-shown : Update → List ℕ → UpdateParts
 update-shown u z = record { cell = u .cell; value = expr-bytes (u .value); rest = z }
+
+-- the bytes of rules of a policy of n cells
+abbrev pub Written : ℕ → List ℕ → List Rule → Type 0
+Written n b rs = (b ≡ joined rule-bytes rs) × All (Valid-rule n) rs
+
+-- the bytes of updates in a policy of n cells where the arguments below a may be read
+abbrev pub WrittenUpdates : ℕ → ℕ → List ℕ → List Update → Type 0
+WrittenUpdates n a b us = (b ≡ joined update-bytes us) × All (Valid-update n a) us

@@ -1,6 +1,7 @@
 // Rule policies over the bytes of their files: the reader, the step and the blocks.
 mod pieces;
 mod reader;
+mod sizes;
 mod tokens;
 mod views;
 

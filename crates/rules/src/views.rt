@@ -1,7 +1,7 @@
 // Rules and updates as parts of a file that reads.
 ghost use mathlib.Core.Path.{_≡_};
 ghost use mathlib.Core.List.{List, _++_};
-ghost use Prim.Native.Nat.{ℕ, _-_, _<_, _≤_};
+ghost use Prim.Native.Nat.{ℕ, _+_, _-_, _<_, _≤_};
 ghost use lib.ListN.{length};
 ghost use Rattle.model.specs.Fields.{field};
 ghost use Rattle.model.specs.Rules.{Rule, Update, rule-bytes, update-bytes, Valid-rule, Valid-update};
@@ -37,7 +37,7 @@ pub struct UpdateView<'a> {
 // The first field of bytes that begin with one. Of others nothing is said, but that fewer are left.
 fn split<'a>(bytes: &'a [u8]) -> Front<'a>
     ensures parts { λ s. ⌜ ((tag : ℕ) (c z : List ℕ) → length c < 65536 → now (bytes .entry) ≡ field tag c ++ z → (now (s .contents) ≡ c) × (now (s .rest) ≡ z)) ⌝ }
-    ensures less { λ s. ⌜ length (now (s .rest)) ≤ length (now (bytes .entry)) - 1 ⌝ }
+    ensures less { λ s. ⌜ length (now (s .contents)) + length (now (s .rest)) ≤ length (now (bytes .entry)) - 1 ⌝ }
 {
     let size = bytes.len();
     let none = &bytes[size..];
@@ -63,15 +63,16 @@ fn split<'a>(bytes: &'a [u8]) -> Front<'a>
 // The first of written rules.
 pub fn first_rule<'a>(bytes: &'a [u8]) -> RuleView<'a>
     ensures parts { λ v. ⌜ ((n : ℕ) (r : Rule) (z : List ℕ) → Valid-rule n r → now (bytes .entry) ≡ rule-bytes r ++ z → rule-view v ≡ rule-shown r z) ⌝ }
-    ensures less { λ v. ⌜ length (now (v .rest)) ≤ length (now (bytes .entry)) - 1 ⌝ }
+    ensures less { λ v. ⌜ length (now (v .guard)) + length (now (v .updates)) + length (now (v .rest)) ≤ length (now (bytes .entry)) - 1 ⌝ }
 {
     let s = split(bytes);
     if s.contents.len() < 2 {
+        let none = &bytes[bytes.len()..];
         return RuleView {
             call: 255,
             moment: Moment::Before,
-            guard: s.contents,
-            updates: s.contents,
+            guard: none,
+            updates: none,
             rest: s.rest,
         };
     }
@@ -88,7 +89,7 @@ pub fn first_rule<'a>(bytes: &'a [u8]) -> RuleView<'a>
 // The first of written updates.
 pub fn first_update<'a>(bytes: &'a [u8]) -> UpdateView<'a>
     ensures parts { λ v. ⌜ ((n a : ℕ) (u : Update) (z : List ℕ) → Valid-update n a u → now (bytes .entry) ≡ update-bytes u ++ z → update-view v ≡ update-shown u z) ⌝ }
-    ensures less { λ v. ⌜ length (now (v .rest)) ≤ length (now (bytes .entry)) - 1 ⌝ }
+    ensures less { λ v. ⌜ length (now (v .value)) + length (now (v .rest)) ≤ length (now (bytes .entry)) - 1 ⌝ }
 {
     let s = split(bytes);
     if s.contents.len() < 1 {
