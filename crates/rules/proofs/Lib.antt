@@ -8,3 +8,5 @@ pub mod Reading
 pub mod Shown
 -- how long blocks are
 pub mod Lengths
+-- the reading of a rule policy
+pub mod Checking

@@ -30,7 +30,7 @@ pub record Here (h : List ℕ) (tag p : ℕ) (c : List ℕ) (n : ℕ) : Type 0 w
   pub inside : drop (p + 3) (take n h) ≡ c
 
 module _ (h : List ℕ) (tag p : ℕ) where
-  read-here : (m : Part) → expect BadPolicyField tag p (drop p h) ≡ Ok m → Here h tag p (m .contents) (next m)
+  pub read-here : (m : Part) → expect BadPolicyField tag p (drop p h) ≡ Ok m → Here h tag p (m .contents) (next m)
   read-here m e =
       let w = parts-of-files .in-file h BadPolicyField tag p m e in
       let s = w .stands in

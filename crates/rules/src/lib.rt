@@ -5,4 +5,5 @@ mod sizes;
 mod tokens;
 mod views;
 
+pub use reader::check;
 pub use tokens::Token;

@@ -5,9 +5,11 @@ ghost use lib.ListN.{length, drop};
 ghost use Rattle.std.specs.declared.option.Option.the-variants.{None};
 ghost use Rattle.model.specs.Moments.{moment-of};
 ghost use Rattle.model.specs.Fields.{fields};
-ghost use Rattle.model.specs.Rules.{triples as sized, update-field, rule-field};
+ghost use Rattle.model.specs.Rules.{triples as sized, update-field, rule-field, read-rules};
+ghost use Rattle.rules.specs.Pieces.{forget};
 ghost use Rattle.rules.specs.Reader.{earlier as sooner, bad-expr, bad-update, bad-rule, one-bad, faulty, headed as call-and-moment, updating as cell-and-tokens, heading as format-and-cells, opened};
 use crate::pieces::due;
+use crate::sizes::short_blocks;
 use crate::tokens::arguments;
 use crate::tokens::balanced;
 use applet::Part;
@@ -172,4 +174,20 @@ pub fn open(file: &[u8]) -> Result<Opening, Refusal>
         cells,
         rules: s.next,
     })
+}
+
+// Reads a rule policy: fields and sizes in file order, then expressions, then the lengths of blocks.
+pub fn check(file: &[u8]) -> Result<(), Refusal>
+    ensures { λ r. ⌜ r ≡ forget (read-rules (now (file .entry))) ⌝ }
+{
+    let o = open(file)?;
+    let bad = rules(file, o.rules, o.cells)?;
+    if let Some(p) = bad {
+        return Err(Refusal::BadExpression(p));
+    }
+    let at = o.rules;
+    if !short_blocks(&file[at..]) {
+        return Err(Refusal::BlockTooLong);
+    }
+    Ok(())
 }
