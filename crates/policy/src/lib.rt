@@ -12,8 +12,8 @@ mod calls;
 mod pair;
 mod table;
 
-pub use bounds::limits;
 pub use blocks::put;
+pub use bounds::limits;
 pub use calls::known;
 pub use calls::may_start;
 pub use calls::may_step;

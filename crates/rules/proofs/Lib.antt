@@ -10,3 +10,5 @@ pub mod Shown
 pub mod Lengths
 -- the reading of a rule policy
 pub mod Checking
+-- the values of an expression, on a stack
+pub mod Stack

@@ -6,3 +6,5 @@ pub mod Pieces
 pub mod Reader
 -- rules and updates as parts of a file
 pub mod Views
+-- values on a stack
+pub mod Values

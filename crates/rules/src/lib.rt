@@ -3,6 +3,7 @@ mod pieces;
 mod reader;
 mod sizes;
 mod tokens;
+mod values;
 mod views;
 
 pub use reader::check;
