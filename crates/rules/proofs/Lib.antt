@@ -12,3 +12,5 @@ pub mod Lengths
 pub mod Checking
 -- the values of an expression, on a stack
 pub mod Stack
+-- rules for an event, one after the other
+pub mod Acts

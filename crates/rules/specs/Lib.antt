@@ -8,3 +8,5 @@ pub mod Reader
 pub mod Views
 -- values on a stack
 pub mod Values
+-- what a search for the rule that acts finds
+pub mod Steps

@@ -2,6 +2,7 @@
 mod pieces;
 mod reader;
 mod sizes;
+mod steps;
 mod tokens;
 mod values;
 mod views;
