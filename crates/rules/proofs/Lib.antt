@@ -14,3 +14,5 @@ pub mod Checking
 pub mod Stack
 -- rules for an event, one after the other
 pub mod Acts
+-- instructions written one after the other
+pub mod Wrote

@@ -12,11 +12,14 @@ use Rattle.std.specs.declared.option.Option.the-variants.{Some, None}
 use Rattle.std.proofs.shelf.Lists.{length-drop, drop-drop, drop-all}
 use Rattle.std.proofs.shelf.Tests.{ltb-true, leb-true, eqb-true, and-parts, false≢true}
 use Rattle.model.specs.Policy.{operate}
-use Rattle.model.specs.Rules.{Token, constant, cell, argument, operator, Expr, operated, taken, values, value, balanced, token, tokens, both, expr-bytes, Valid-expr}
+use Rattle.model.specs.Rules.{Token, constant, cell, argument, operator, Expr, emit, taken, values, value, balanced, token, tokens, both, expr-bytes, Valid-token, Valid-expr}
 use Rattle.model.proofs.RuleBlocks.{Held, held-set, held-more}
 use Rattle.model.proofs.PolicyRoundTrip.{tokens-write}
 use Rattle.rules.specs.Tokens.{room, after, first-token, well-held}
 use Rattle.rules.specs.Values.{stacked}
+use Rattle.rules.specs.Writer.{coded}
+use Rattle.model.specs.declared.Test.{Test}
+use Rattle.std.specs.shelf.Lists.{All}
 
 -- one token more on the stack
 module _ (a c : List ℤ) where
@@ -46,7 +49,7 @@ by-room d (cell i) ts = refl
 by-room d (argument i) ts = refl
 by-room d (operator o) ts = refl
 
-after-few : (d : ℕ) (t : Token) → d ≤ 8 → room d t ≡ true → after d t ≤ 8
+pub after-few : (d : ℕ) (t : Token) → d ≤ 8 → room d t ≡ true → after d t ≤ 8
 after-few d (constant z) u r = let k = ltb-true d 8 r in omega arith
 after-few d (cell i) u r = let k = ltb-true d 8 r in omega arith
 after-few d (argument i) u r = let k = ltb-true d 8 r in omega arith
@@ -133,3 +136,48 @@ three-off n a c i t l e = go (drop i c) (length-drop i c) e
     go (x ∷ []) k e = absurd (let z : _≡_ {A = ℕ} 0 1 = cc in omega arith)
     go (x ∷ y ∷ []) k e = absurd (let z : _≡_ {A = ℕ} 0 1 = cc in omega arith)
     go (x ∷ y ∷ z ∷ r) k e = omega arith
+
+-- ---- an expression that is left to read
+
+-- from index i on, with d values held: what is left
+pub record Unread (n a : ℕ) (c : List ℕ) (i d : ℕ) : Type 0 where
+  pub rest : Expr
+  pub reads : tokens n a (drop i c) ≡ Some rest
+  pub balance : balanced d rest ≡ true
+  pub valid : All (Valid-token n a) rest
+
+abbrev pub unread-start : (n a : ℕ) (c : List ℕ) (ts : Expr) → c ≡ expr-bytes ts → Valid-expr n a ts → Unread n a c 0 0
+unread-start n a c ts e w = record { rest = ts; reads = ap (tokens n a) e ∙ tokens-write n a ts (w .tokens); balance = w .balanced; valid = w .tokens }
+
+module _ (n a : ℕ) (c : List ℕ) (i d : ℕ) (u : Unread n a c i d) where
+  pub unread-some : i < length c → first-token n a (drop i c) ≡ None → ⊥
+  unread-some l e = none-off n a (drop i c) (u .rest) (rw (length-drop i c) (omega arith)) e (u .reads)
+
+  pub unread-end : length c ≤ i → u .rest ≡ []
+  unread-end l = let z : Some (u .rest) ≡ Some [] = sym (u .reads) ∙ ap (tokens n a) (drop-all i c l) in cc
+
+  -- one token more is read
+  pub record Off (t : Token) : Type 0 where
+    pub roomy : room d t ≡ true
+    pub valid : Valid-token n a t
+    pub more : Unread n a c (i + 3) (after d t)
+    pub all : u .rest ≡ t ∷ more .rest
+
+  pub unread-more : (t : Token) → first-token n a (drop i c) ≡ Some t → Off t
+  unread-more t e =
+      let o = taken-off n a (drop i c) t (u .rest) e (u .reads) in
+      let p = and-parts _ _ (sym (ap (balanced d) (o .1) ∙ by-room d t (o .0)) ∙ u .balance) in
+      let v = subst (All (Valid-token n a)) (o .1) (u .valid) in
+      record {
+        roomy = p .0;
+        valid = v .0;
+        more = record { rest = o .0; reads = ap (tokens n a) (sym (drop-drop 3 i c)) ∙ o .2; balance = p .1; valid = v .1 };
+        all = o .1;
+      }
+
+-- the code of an expression begins with that of its first token
+pub emit-first : (n a f d : ℕ) (t : Token) (ts : Expr) (i : Test) → Valid-token n a t → coded n f d t i → emit f d (t ∷ ts) ≡ i ∷ emit f (after d t) ts
+emit-first n a f d (constant z) ts i v e = ap (λ x. x ∷ emit f (d + 1) ts) (sym e)
+emit-first n a f d (cell j) ts i v e = ap (λ x. x ∷ emit f (d + 1) ts) (sym (e v))
+emit-first n a f d (argument j) ts i v e = ap (λ x. x ∷ emit f (d + 1) ts) (sym e)
+emit-first n a f d (operator o) ts i v e = ap (λ x. x ∷ emit f (d - 1) ts) (sym e)

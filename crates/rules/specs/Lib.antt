@@ -10,3 +10,5 @@ pub mod Views
 pub mod Values
 -- what a search for the rule that acts finds
 pub mod Steps
+-- instructions written into an area
+pub mod Writer

@@ -6,6 +6,7 @@ mod steps;
 mod tokens;
 mod values;
 mod views;
+mod writer;
 
 pub use reader::check;
 pub use tokens::Token;
