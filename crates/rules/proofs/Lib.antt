@@ -16,3 +16,5 @@ pub mod Stack
 pub mod Acts
 -- instructions written one after the other
 pub mod Wrote
+-- start values in four bytes each
+pub mod Starts

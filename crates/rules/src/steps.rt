@@ -1,10 +1,12 @@
 // The step of a rule policy: the first rule with a nonzero guard acts.
 ghost use mathlib.Core.Path.{_≡_};
-ghost use mathlib.Core.List.{List};
-ghost use lib.ListN.{set};
+ghost use mathlib.Core.List.{List, _++_, map};
+ghost use Prim.Native.Nat.{ℕ, _+_, _*_, _≤_};
+ghost use lib.ListN.{length, set, drop};
 ghost use Rattle.model.specs.Policy.{arguments as readable-at};
+ghost use Rattle.model.specs.Words.{quads, signed-of, quad-at};
 ghost use Rattle.model.specs.Calls.{verdict-of, row-behind};
-ghost use Rattle.model.specs.Rules.{Rule, Update, updated, rules-of, rules-step};
+ghost use Rattle.model.specs.Rules.{Rule, Update, updated, rules-of, rules-step, has-rule};
 ghost use Rattle.rules.specs.Views.{Written, WrittenUpdates};
 ghost use Rattle.rules.specs.Steps.{Meets};
 use crate::sizes::is_for;
@@ -73,6 +75,21 @@ fn search<'a>(
     if none { Acting::Unruled } else { Acting::Unmet }
 }
 
+// Whether there is a rule for a call.
+pub fn has_rule(rules: &[u8], call: u8) -> bool
+    ensures { λ r. ⌜ ((n : ℕ) (rs : List Rule) → Written n (now (rules .entry)) rs → r ≡ has-rule call rs) ⌝ }
+{
+    let mut rest = rules;
+    while rest.len() > 0 {
+        let r = first_rule(rest);
+        if r.call == call {
+            return true;
+        }
+        rest = r.rest;
+    }
+    false
+}
+
 // Steps cells by an event, with the arguments and the answer in one row.
 pub fn step_cells(
     rules: &[u8],
@@ -92,5 +109,24 @@ pub fn step_cells(
             update_cells(updates, width, arguments(moment), args, cells);
             Verdict::Taken
         }
+    }
+}
+
+// The number of four bytes.
+fn number(bytes: &[u8], at: usize) -> i32
+    requires { ⌜ at + 4 ≤ length (now bytes) ⌝ }
+    ensures { λ r. ⌜ r ≡ signed-of (quad-at (now (bytes .entry)) at) ⌝ }
+{
+    i32::from_be_bytes([bytes[at], bytes[at + 1], bytes[at + 2], bytes[at + 3]])
+}
+
+// Writes the start values, four bytes each, into the first cells of a row that has room for them.
+pub fn start_cells(bytes: &[u8], cells: &mut [i32])
+    requires { ⌜ length (now bytes) ≤ 4 * length (now cells) ⌝ }
+    ensures { λ _. ⌜ now (cells .exit) ≡ map signed-of (quads (now (bytes .entry))) ++ drop (length (quads (now (bytes .entry)))) (now (cells .entry)) ⌝ }
+{
+    let n = bytes.len() / 4;
+    for i in 0..n {
+        cells[i] = number(bytes, 4 * i);
     }
 }
