@@ -47,3 +47,5 @@ pub mod Watch
 -- examples
 pub mod Rehearsal
 pub mod RefusedFiles
+-- the file of a rule policy
+pub mod RuleFiles
