@@ -176,7 +176,7 @@ checked-is n a p c e t h = go (tokens n a c) refl h
     go (Some d) s r = cond-both (balanced 0 d) (Ok d) (refuse (BadExpression p)) (λ x. x ≡ Ok e → (Bytes c → expr-bytes e ≡ c) × Valid-expr n a e) (λ y q. good d s y cc)
         (λ y q. absurd (err-ok q)) r
 
-all-three : (a b c : Bool) → a && b && c ≡ true → (a ≡ true) × (b ≡ true) × (c ≡ true)
+pub all-three : (a b c : Bool) → a && b && c ≡ true → (a ≡ true) × (b ≡ true) × (c ≡ true)
 all-three true b c e = let p = and-parts b c e in (refl, p .0, p .1)
 all-three false b c e = absurd (false≢true e)
 

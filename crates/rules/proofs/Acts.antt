@@ -1,15 +1,17 @@
 -- Rules for an event, one after the other.
 use mathlib.Core.Path.{_≡_, refl, sym, ap, _∙_}
 use mathlib.Core.Bool.{Bool, true, false, cond, _&&_}
-use mathlib.Core.List.{List, [], _∷_}
+use mathlib.Core.List.{List, [], _∷_, _++_}
 use Prim.Native.Nat.{ℕ}
 use lib.Dec.{eqb}
 use lib.IntN.{ℤ, pos}
+use lib.ListN.{take, drop, take-append-drop}
 use Rattle.std.specs.declared.option.Option.{Option}
-use Rattle.std.specs.declared.option.Option.the-variants.{Some}
+use Rattle.std.specs.declared.option.Option.the-variants.{Some, None}
 use Rattle.model.specs.declared.Moment.{Moment}
 use Rattle.model.specs.Moments.{same-moment}
-use Rattle.model.specs.Policy.{eqZ}
+use Rattle.model.specs.Policy.{Automaton, eqZ}
+use Rattle.model.specs.Calls.{row-behind, whole-row}
 use Rattle.model.specs.Rules.{Rule, value, updated, acted, rules-of, rules-step}
 
 -- the step by the rules left, where none was met before or some were
@@ -34,3 +36,8 @@ module _ (a c : List ℤ) (r : Rule) (rs : List Rule) where
 
   pub acts : (b : Bool) → eqZ (value a c (r .guard)) (pos 0) ≡ false → going b a c (r ∷ rs) ≡ Some (updated a (r .updates) c)
   acts b e = going-first b ∙ ap (λ x. cond x (acted a c rs) (Some (updated a (r .updates) c))) e
+
+-- the stepped cells in front of what the row holds past them
+pub behind-row : (A : Automaton) (row : List ℤ) (o : Option (List ℤ)) → row-behind (take (A .width) row) o ++ drop (A .width) row ≡ row-behind row (whole-row A row o)
+behind-row A row None = take-append-drop (A .width) row
+behind-row A row (Some c) = refl

@@ -10,6 +10,8 @@ use lib.IntN.{ℤ}
 use Rattle.std.specs.declared.option.Option.{Option}
 use Rattle.std.specs.declared.option.Option.the-variants.{Some, None}
 use Rattle.std.specs.declared.result.Result.the-variants.{Ok, Err}
+use Rattle.std.proofs.shelf.Tests.{false≢true}
+use Rattle.std.specs.Results.{isOk, isErr}
 use Rattle.model.specs.declared.Refusal.{Refusal}
 use Rattle.model.specs.declared.Refusal.the-variants.{BadPolicyField, BadExpression, BlockTooLong}
 use Rattle.model.specs.Fields.{Bytes, Read, Part, Field, need, every, next, expect, fields, _>>=_, _>>_}
@@ -198,3 +200,12 @@ module _ (f : List ℕ) (o : Opening) where
     pub left-good : short rs ≡ true → remaining f o ≡ Ok tt
     unfolding _>>=_
     left-good t = rw (e, t)
+
+-- ---- what a check tells
+
+pub refused-read : (f : List ℕ) (r : Read (Unit {0})) → r ≡ forget (read-rules f) → isErr r ≡ true → isOk (read-rules f) ≡ false
+refused-read f r e h = go (read-rules f) (ap isErr (sym e) ∙ h)
+  where
+    go : (x : Read Rules) → isErr (forget x) ≡ true → isOk x ≡ false
+    go (Ok p) h = absurd (false≢true h)
+    go (Err y) h = refl

@@ -44,3 +44,12 @@ start-more bs cells i h l =
     ∙ set-at (map signed-of (take i (quads bs))) (getD cells i (pos 0)) (drop (i + 1) cells) (signed-of (quad-at bs (4 * i))) i k
     ∙ sym (ap (λ z. z ++ drop (i + 1) cells) (m ∙ ap (λ z. map signed-of (take i (quads bs)) ++ (signed-of z ∷ [])) q)
     ∙ append-assoc (map signed-of (take i (quads bs))) (signed-of (quad-at bs (4 * i)) ∷ []) (drop (i + 1) cells))
+
+-- four numbers and one more
+pub four-and-one : (xs : List ℤ) (v : ℤ) (d : ℤ) → length xs ≡ 4 → getD xs 0 d ∷ getD xs 1 d ∷ getD xs 2 d ∷ getD xs 3 d ∷ v ∷ [] ≡ xs ++ (v ∷ [])
+four-and-one [] v d e = absurd (omega arith)
+four-and-one (a ∷ []) v d e = absurd (omega arith)
+four-and-one (a ∷ b ∷ []) v d e = absurd (omega arith)
+four-and-one (a ∷ b ∷ c ∷ []) v d e = absurd (omega arith)
+four-and-one (a ∷ b ∷ c ∷ x ∷ []) v d e = refl
+four-and-one (a ∷ b ∷ c ∷ x ∷ y ∷ r) v d e = absurd (omega arith)

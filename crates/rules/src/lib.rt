@@ -1,4 +1,5 @@
 // Rule policies over the bytes of their files: the reader, the step and the blocks.
+mod borrowed;
 mod pieces;
 mod reader;
 mod sizes;
@@ -8,5 +9,7 @@ mod values;
 mod views;
 mod writer;
 
+pub use borrowed::Rules;
+pub use borrowed::RulesPolicy;
 pub use reader::check;
 pub use tokens::Token;
