@@ -69,9 +69,6 @@ module _ (n a : ℕ) where
   pub held-none : (d : ℕ) (xs : List ℕ) (i : ℕ) → i < length xs → first-token n a (drop i xs) ≡ None → well-held d (tokens n a (drop i xs)) ≡ false
   held-none d xs i h e = without d (drop i xs) (rw (length-drop i xs) (omega arith)) e
 
-  pub held-full : (d : ℕ) (xs : List ℕ) (i : ℕ) (t : Token) → first-token n a (drop i xs) ≡ Some t → room d t ≡ false → well-held d (tokens n a (drop i xs)) ≡ false
-  held-full d xs i t e f = by-first d (drop i xs) t e .1 ∙ ap (λ b. b && well-held (after d t) (tokens n a (drop 3 (drop i xs)))) f
-
   pub held-more : (d : ℕ) (xs : List ℕ) (i : ℕ) (t : Token) → i ≤ length xs → first-token n a (drop i xs) ≡ Some t → room d t ≡ true →
       (i + 3 ≤ length xs) × (well-held (after d t) (tokens n a (drop (i + 3) xs)) ≡ well-held d (tokens n a (drop i xs)))
   held-more d xs i t h e f =

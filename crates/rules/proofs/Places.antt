@@ -109,10 +109,3 @@ module _ (f g : List ℕ) (tag p q : ℕ) (same : g ≡ f) (here : q ≡ p) (kno
   piece-missing m e =
       let w : piece-of (expect BadPolicyField tag q (drop q g)) ≡ Err (BadPolicyField q) = ap piece-of (expect-due g tag q known ∙ ap (expected g q) (sym e)) in
       ap (λ k. Err (BadPolicyField k)) (sym here) ∙ sym w ∙ ap₂ (λ a b. piece-of (expect BadPolicyField tag a (drop a b))) here same
-
--- a field that was read, at its place: its contents, and the place behind it, from which on the rest stands
-pub record Stood (f : List ℕ) (p : ℕ) (m : Part) : Type 0 where
-  pub place : m .place ≡ p
-  pub ends : next m ≤ length f
-  pub rest : m .rest ≡ drop (next m) f
-  pub inside : m .contents ≡ drop (p + 3) (take (next m) f)

@@ -94,11 +94,6 @@ module _ (n a : ℕ) (args cells : List ℤ) (c : List ℕ) (v : ℤ) where
     pub left-some : i < length c → first-token n a (drop i c) ≡ None → ⊥
     left-some l e = none-off n a (drop i c) (h .rest) (rw (length-drop i c) (omega arith)) e (h .reads)
 
-    pub left-room : (t : Token) → first-token n a (drop i c) ≡ Some t → room d t ≡ true
-    left-room t e =
-        let o = taken-off n a (drop i c) t (h .rest) e (h .reads) in
-        and-parts _ _ (sym (ap (balanced d) (o .1) ∙ by-room d t (o .0)) ∙ h .balance) .0
-
     pub left-more : (t : Token) → first-token n a (drop i c) ≡ Some t → length m ≡ 8 → d ≤ 8 → Left (i + 3) (after d t) (stacked args cells d t m)
     left-more t e l u =
         let o = taken-off n a (drop i c) t (h .rest) e (h .reads) in

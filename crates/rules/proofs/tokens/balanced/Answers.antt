@@ -4,7 +4,7 @@ use lib.ListN.{drop}
 use Rattle.std.proofs.shelf.Lists.{at-drop-all}
 use Rattle.model.specs.Rules.{tokens}
 use Rattle.rules.specs.Tokens.{meant, well-held, room, after}
-use Rattle.rules.proofs.Expressions.{given-by, held-none, held-full, held-more}
+use Rattle.rules.proofs.Expressions.{given-by, held-none, held-more}
 use Rattle.rules.proofs.tokens.balanced.Needs as need
 
 pub returns-in-rest : need.returns-in-rest

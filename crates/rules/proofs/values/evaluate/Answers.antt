@@ -11,7 +11,7 @@ use Rattle.std.proofs.shelf.Signed.{toZ-ofZ}
 use Rattle.model.specs.Rules.{value}
 use Rattle.rules.specs.Tokens.{meant, room, after}
 use Rattle.rules.proofs.Expressions.{given-by}
-use Rattle.rules.proofs.Stack.{Left, left-start, left-some, left-room, left-more, left-end, few-more, three-off}
+use Rattle.rules.proofs.Stack.{Left, left-start, left-some, left-more, left-end, few-more, three-off}
 use Rattle.rules.proofs.values.evaluate.Needs as need
 
 pub loop-i-holds : need.loop-i-holds
