@@ -48,3 +48,5 @@ pub mod Watch
 -- examples
 pub mod Examples
 pub mod RefusedFiles
+-- the file of a rule policy
+pub mod RuleFiles

@@ -15,7 +15,12 @@ mod reader;
 mod table;
 mod watch;
 
+pub use blocks::put;
 pub use bounds::limits;
+pub use calls::known;
+pub use calls::may_start;
+pub use calls::may_step;
+pub use calls::may_write;
 pub use kind::policy_kind;
 pub use pair::Pair;
 pub use pair::PairPolicy;

@@ -24,7 +24,7 @@ fn signed(word: &str) -> Option<i32> {
 
 // A call or a thread: a number that is too large for its byte is the largest one, which there is
 // never.
-fn small(word: &str) -> Option<u8> {
+pub(crate) fn small(word: &str) -> Option<u8> {
     match word.parse::<u32>() {
         Ok(n) => Some(n.min(255) as u8),
         Err(_) => None,
@@ -39,13 +39,13 @@ fn four(words: &[&str]) -> Option<[i32; 4]> {
     Some([signed(a)?, signed(b)?, signed(c)?, signed(d)?])
 }
 
-// A moment by its name.
-fn moment(word: &str) -> Option<Moment> {
-    if word == "before" {
+// A moment by its name or its number.
+pub(crate) fn moment(word: &str) -> Option<Moment> {
+    if word == "before" || word == "0" {
         Some(Moment::Before)
-    } else if word == "after" {
+    } else if word == "after" || word == "1" {
         Some(Moment::After)
-    } else if word == "raised" {
+    } else if word == "raised" || word == "2" {
         Some(Moment::Raised)
     } else {
         None
