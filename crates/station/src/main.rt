@@ -38,7 +38,10 @@ fn usage(rt: &LibcRuntime) -> Result<Ended, AnyError> {
     eprintln!(rt, "       station run APPLET SCRIPT")?;
     eprintln!(rt, "       station run APPLET --rounds N")?;
     eprintln!(rt, "       station policy POLICY [POLICY2]")?;
-    eprintln!(rt, "       station block CALL MOMENT FIRST POLICY [POLICY2]")?;
+    eprintln!(
+        rt,
+        "       station block CALL MOMENT FIRST POLICY [POLICY2]"
+    )?;
     eprintln!(rt, "       station watch SCRIPT POLICY [POLICY2]")?;
     Ok(Ended::Failed)
 }
@@ -148,25 +151,37 @@ fn checked(file: &[u8]) -> Result<PolicyKind, Refusal> {
 }
 
 // Carries out a task on the pair of two policies, if it is within the limits.
-fn on_pair<P: Policy + Drop, Q: Policy + Drop>(rt: &LibcRuntime, p: P, q: Q, task: Task<'_>) -> Result<Answer, AnyError> {
+fn on_pair<P: Policy + Drop, Q: Policy + Drop>(
+    rt: &LibcRuntime,
+    p: P,
+    q: Q,
+    task: Task,
+    script: &str,
+) -> Result<Answer, AnyError> {
     let pair = Pair::new(p, q);
     match limits(&pair) {
-        Ok(()) => policies::carry_out(rt, pair, "pair", task),
+        Ok(()) => policies::carry_out(rt, pair, "pair", task, script),
         Err(r) => Ok(Answer::Refused(r)),
     }
 }
 
 // Carries out a task on the policy of one file.
-fn on_one(rt: &LibcRuntime, file: &[u8], task: Task<'_>) -> Result<Answer, AnyError> {
+fn on_one(rt: &LibcRuntime, file: &[u8], task: Task, script: &str) -> Result<Answer, AnyError> {
     match checked(file) {
-        Ok(PolicyKind::Rules) => policies::carry_out(rt, Rules::new(file), "rules", task),
-        Ok(PolicyKind::Table) => policies::carry_out(rt, Table::new(file), "table", task),
+        Ok(PolicyKind::Rules) => policies::carry_out(rt, Rules::new(file), "rules", task, script),
+        Ok(PolicyKind::Table) => policies::carry_out(rt, Table::new(file), "table", task, script),
         Err(r) => Ok(Answer::Refused(r)),
     }
 }
 
 // Carries out a task on the pair of two files.
-fn on_two(rt: &LibcRuntime, one: &[u8], two: &[u8], task: Task<'_>) -> Result<Answer, AnyError> {
+fn on_two(
+    rt: &LibcRuntime,
+    one: &[u8],
+    two: &[u8],
+    task: Task,
+    script: &str,
+) -> Result<Answer, AnyError> {
     let first = match checked(one) {
         Ok(kind) => kind,
         Err(r) => return Ok(Answer::Refused(r)),
@@ -176,10 +191,34 @@ fn on_two(rt: &LibcRuntime, one: &[u8], two: &[u8], task: Task<'_>) -> Result<An
         Err(r) => return Ok(Answer::Refused(r)),
     };
     match (first, second) {
-        (PolicyKind::Rules, PolicyKind::Rules) => on_pair(rt, Rules::new(one), Rules::new(two), task),
-        (PolicyKind::Rules, PolicyKind::Table) => on_pair(rt, Rules::new(one), Table::new(two), task),
-        (PolicyKind::Table, PolicyKind::Rules) => on_pair(rt, Table::new(one), Rules::new(two), task),
-        (PolicyKind::Table, PolicyKind::Table) => on_pair(rt, Table::new(one), Table::new(two), task),
+        (PolicyKind::Rules, PolicyKind::Rules) => on_pair(
+            rt,
+            Rules::new(one),
+            Rules::new(two),
+            task,
+            script,
+        ),
+        (PolicyKind::Rules, PolicyKind::Table) => on_pair(
+            rt,
+            Rules::new(one),
+            Table::new(two),
+            task,
+            script,
+        ),
+        (PolicyKind::Table, PolicyKind::Rules) => on_pair(
+            rt,
+            Table::new(one),
+            Rules::new(two),
+            task,
+            script,
+        ),
+        (PolicyKind::Table, PolicyKind::Table) => on_pair(
+            rt,
+            Table::new(one),
+            Table::new(two),
+            task,
+            script,
+        ),
     }
 }
 
@@ -193,13 +232,18 @@ fn told(rt: &LibcRuntime, answer: Answer) -> Result<Ended, AnyError> {
 }
 
 // Carries out a task on one policy file, or on two as a pair.
-fn on_files(rt: &LibcRuntime, paths: &[String], task: Task<'_>) -> Result<Ended, AnyError> {
+fn on_files(
+    rt: &LibcRuntime,
+    paths: &[String],
+    task: Task,
+    script: &str,
+) -> Result<Ended, AnyError> {
     match paths {
         [path] => {
             let Some(file) = bytes(rt, path.as_str())? else {
                 return Ok(Ended::Failed);
             };
-            told(rt, on_one(rt, file.as_slice(), task)?)
+            told(rt, on_one(rt, file.as_slice(), task, script)?)
         }
         [path, path2] => {
             let Some(one) = bytes(rt, path.as_str())? else {
@@ -208,7 +252,10 @@ fn on_files(rt: &LibcRuntime, paths: &[String], task: Task<'_>) -> Result<Ended,
             let Some(two) = bytes(rt, path2.as_str())? else {
                 return Ok(Ended::Failed);
             };
-            told(rt, on_two(rt, one.as_slice(), two.as_slice(), task)?)
+            told(
+                rt,
+                on_two(rt, one.as_slice(), two.as_slice(), task, script)?,
+            )
         }
         _ => usage(rt),
     }
@@ -226,7 +273,7 @@ fn block(rt: &LibcRuntime, args: &[String]) -> Result<Ended, AnyError> {
         return usage(rt);
     };
     match scripts::moment(moment.as_str()) {
-        Some(moment) => on_files(rt, paths, Task::Block(call, moment, first)),
+        Some(moment) => on_files(rt, paths, Task::Block(call, moment, first), ""),
         None => usage(rt),
     }
 }
@@ -239,13 +286,13 @@ fn watch(rt: &LibcRuntime, args: &[String]) -> Result<Ended, AnyError> {
     let Some(text) = script_text(rt, script.as_str())? else {
         return Ok(Ended::Failed);
     };
-    on_files(rt, paths, Task::Watch(text.as_str()))
+    on_files(rt, paths, Task::Watch, text.as_str())
 }
 
 // Carries out a command that is about policies.
 fn about_policies(rt: &LibcRuntime, name: &str, args: &[String]) -> Result<Ended, AnyError> {
     if name == "policy" {
-        on_files(rt, args, Task::Report)
+        on_files(rt, args, Task::Report, "")
     } else if name == "block" {
         block(rt, args)
     } else if name == "watch" {
@@ -260,8 +307,13 @@ fn command(rt: &LibcRuntime) -> Result<Ended, AnyError> {
     let args: Vec<String> = env::args(rt)?.skip(1).collect(rt.alloc())?;
     match args.as_slice() {
         [name, applet] if name.as_str() == "list" => list_file(rt, applet.as_str()),
-        [name, applet, script] if name.as_str() == "run" => run_script(rt, applet.as_str(), script.as_str()),
-        [name, applet, how, n] if name.as_str() == "run" && how.as_str() == "--rounds" => run_rounds(rt, applet.as_str(), n.as_str()),
+        [name, applet, script] if name.as_str() == "run" => run_script(
+            rt,
+            applet.as_str(),
+            script.as_str(),
+        ),
+        [name, applet, how, n] if name.as_str() == "run" && how.as_str() == "--rounds" =>
+            run_rounds(rt, applet.as_str(), n.as_str()),
         [name, rest @ ..] => about_policies(rt, name.as_str(), rest),
         [] => usage(rt),
     }

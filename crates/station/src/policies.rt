@@ -9,12 +9,12 @@ use policy::Policy;
 use policy::Watch;
 use std::error::AnyError;
 
-// What is asked of a policy.
+// What is asked of a policy; a watch also takes a script.
 #[derive(Clone, Copy)]
-pub(crate) enum Task<'a> {
+pub(crate) enum Task {
     Report,
     Block(u8, Moment, u8),
-    Watch(&'a str),
+    Watch,
 }
 
 // How a task ended: with its report, with a refusal, or at a line that is none of the script's, of
@@ -44,7 +44,10 @@ fn watched<P: Policy>(rt: &LibcRuntime, p: &P, call: u8) -> Result<(), AnyError>
     let before = p.block_len(call, Moment::Before);
     let after = p.block_len(call, Moment::After);
     let raised = p.block_len(call, Moment::Raised);
-    println!(rt, "call {call}: before {before}, after {after}, raised {raised}")?;
+    println!(
+        rt,
+        "call {call}: before {before}, after {after}, raised {raised}"
+    )?;
     Ok(())
 }
 
@@ -67,7 +70,13 @@ fn report<P: Policy>(rt: &LibcRuntime, p: &P, kind: &str) -> Result<Answer, AnyE
 }
 
 // Lists the block for a call, a moment and a first cell.
-fn block<P: Policy>(rt: &LibcRuntime, p: &P, call: u8, moment: Moment, first: u8) -> Result<Answer, AnyError> {
+fn block<P: Policy>(
+    rt: &LibcRuntime,
+    p: &P,
+    call: u8,
+    moment: Moment,
+    first: u8,
+) -> Result<Answer, AnyError> {
     let mut area = [0u8; 4000];
     match p.write_block(call, moment, first, &mut area) {
         Ok(n) => {
@@ -97,13 +106,25 @@ fn numbered(rt: &LibcRuntime, r: Refusal) -> Result<(), AnyError> {
 }
 
 // Carries out one line of a script.
-fn line<P: Policy>(rt: &LibcRuntime, w: &mut Watch<P>, row: &mut [i32; 32], width: u8, l: WatchLine) -> Result<(), AnyError> {
+fn line<P: Policy>(
+    rt: &LibcRuntime,
+    w: &mut Watch<P>,
+    row: &mut [i32; 32],
+    width: u8,
+    l: WatchLine,
+) -> Result<(), AnyError> {
     let said = match l {
         WatchLine::Begin => match w.begin(row) {
             Ok(()) => "begun ",
             Err(r) => return numbered(rt, r),
         },
-        WatchLine::Event(moment, call, args, answer) => match w.judge(moment, call, &args, answer, row) {
+        WatchLine::Event(moment, call, args, answer) => match w.judge(
+            moment,
+            call,
+            &args,
+            answer,
+            row,
+        ) {
             Ok(v) => verdict(v),
             Err(r) => return numbered(rt, r),
         },
@@ -120,7 +141,10 @@ fn watch<P: Policy + Drop>(rt: &LibcRuntime, p: P, text: &str) -> Result<Answer,
     for (i, l) in text.lines().enumerate() {
         let Some(parsed) = scripts::watch_line(rt.alloc(), l)? else {
             let number = i.saturating_add(1);
-            eprintln!(rt, "station: line {number} of the script is no begin and no event")?;
+            eprintln!(
+                rt,
+                "station: line {number} of the script is no begin and no event"
+            )?;
             return Ok(Answer::BadLine);
         };
         line(rt, &mut w, &mut row, width, parsed)?;
@@ -129,10 +153,16 @@ fn watch<P: Policy + Drop>(rt: &LibcRuntime, p: P, text: &str) -> Result<Answer,
 }
 
 // Carries out a task on a policy.
-pub(crate) fn carry_out<P: Policy + Drop>(rt: &LibcRuntime, p: P, kind: &str, task: Task<'_>) -> Result<Answer, AnyError> {
+pub(crate) fn carry_out<P: Policy + Drop>(
+    rt: &LibcRuntime,
+    p: P,
+    kind: &str,
+    task: Task,
+    script: &str,
+) -> Result<Answer, AnyError> {
     match task {
         Task::Report => report(rt, &p, kind),
         Task::Block(call, moment, first) => block(rt, &p, call, moment, first),
-        Task::Watch(text) => watch(rt, p, text),
+        Task::Watch => watch(rt, p, script),
     }
 }

@@ -66,7 +66,10 @@ pub(crate) fn script(rt: &LibcRuntime, m: &mut Machine<'_>, text: &str) -> Resul
     for (i, l) in text.lines().enumerate() {
         let Some(act) = scripts::run_line(rt.alloc(), l)? else {
             let number = i.saturating_add(1);
-            eprintln!(rt, "station: line {number} of the script is no step and no answer")?;
+            eprintln!(
+                rt,
+                "station: line {number} of the script is no step and no answer"
+            )?;
             return Ok(false);
         };
         line(rt, m, act)?;
@@ -106,7 +109,12 @@ fn round(m: &mut Machine<'_>, threads: u8, counts: &mut Counts) -> bool {
 }
 
 // Up to so many rounds, until none of the threads can go on; then how it went.
-pub(crate) fn rounds(rt: &LibcRuntime, m: &mut Machine<'_>, threads: u8, n: u32) -> Result<(), AnyError> {
+pub(crate) fn rounds(
+    rt: &LibcRuntime,
+    m: &mut Machine<'_>,
+    threads: u8,
+    n: u32,
+) -> Result<(), AnyError> {
     let mut counts = Counts {
         steps: 0,
         calls: 0,
@@ -135,7 +143,10 @@ fn thread(rt: &LibcRuntime, s: &State, t: u8) -> Result<(), AnyError> {
     let method = s.method(t).unwrap_or(0);
     let index = s.index(t).unwrap_or(0);
     let depth = s.depth(t).unwrap_or(0).saturating_add(1);
-    print!(rt, "thread {t} {status} method {method} index {index} depth {depth} registers")?;
+    print!(
+        rt,
+        "thread {t} {status} method {method} index {index} depth {depth} registers"
+    )?;
     for x in 0..8u8 {
         let v = s.register(t, x).unwrap_or(0);
         print!(rt, " {v}")?;
@@ -159,7 +170,11 @@ pub(crate) fn report(rt: &LibcRuntime, s: &State, threads: u8, cells: u8) -> Res
         Some(t) => println!(rt, "lock held by thread {t}")?,
         None => println!(rt, "lock free")?,
     }
-    let stopped = if s.stopped() { "stopped" } else { "not stopped" };
+    let stopped = if s.stopped() {
+        "stopped"
+    } else {
+        "not stopped"
+    };
     println!(rt, "machine {stopped}")?;
     Ok(())
 }
