@@ -13,7 +13,7 @@ use model::Instr;
 use model::Own;
 
 // The instruction at which a thread stands; none past the end of its method's code.
-pub fn fetch(applet: &Applet<'_>, at: Stand) -> Option<Instr>
+pub(crate) fn fetch(applet: &Applet<'_>, at: Stand) -> Option<Instr>
     ensures value { λ r. ⌜ or-end r ≡ fetched (meant (now (applet .entry))) at ⌝ }
     ensures valid { λ r. ⌜ BySome r (Unit {0}) (λ i. Valid i × (at .index < 65536)) ⌝ }
 {
@@ -24,7 +24,7 @@ pub fn fetch(applet: &Applet<'_>, at: Stand) -> Option<Instr>
 }
 
 // Where a HOST that is answered as raised goes on.
-pub fn raised_target(i: Option<Instr>) -> u16
+pub(crate) fn raised_target(i: Option<Instr>) -> u16
     ensures { λ r. ⌜ r ≡ going-on (or-end i) ⌝ }
 {
     match i {

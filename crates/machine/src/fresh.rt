@@ -62,7 +62,7 @@ fn fill(cells: &mut [i32; 32], applet: &Applet<'_>)
 
 impl State {
     // The state of an applet that was just loaded.
-    pub fn loaded(applet: &Applet<'_>) -> State
+    pub(crate) fn loaded(applet: &Applet<'_>) -> State
         requires threads { ⌜ length (meant (now applet) .entries) ≤ 8 ⌝ }
         requires cells { ⌜ length (meant (now applet) .starts) ≤ 32 ⌝ }
         ensures { λ r. ⌜ machine-of r ≡ new-machine (meant (now (applet .entry))) ⌝ }

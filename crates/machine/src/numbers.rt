@@ -6,25 +6,25 @@ ghost use Rattle.std.specs.shelf.Signed.{wrapped};
 ghost use Rattle.model.specs.Policy.{flag as truth, operate as operated};
 use model::Operator;
 
-pub fn flag(b: bool) -> i32
+pub(crate) fn flag(b: bool) -> i32
     ensures { λ r. ⌜ r ≡ truth b ⌝ }
 {
     if b { 1 } else { 0 }
 }
 
-pub fn add(a: i32, b: i32) -> i32
+pub(crate) fn add(a: i32, b: i32) -> i32
     ensures { λ r. ⌜ r ≡ wrapped w32 (a +ℤ b) ⌝ }
 {
     a.wrapping_add(b)
 }
 
-pub fn sub(a: i32, b: i32) -> i32
+pub(crate) fn sub(a: i32, b: i32) -> i32
     ensures { λ r. ⌜ r ≡ wrapped w32 (a -ℤ b) ⌝ }
 {
     a.wrapping_sub(b)
 }
 
-pub fn operate(o: Operator, a: i32, b: i32) -> i32
+pub(crate) fn operate(o: Operator, a: i32, b: i32) -> i32
     ensures { λ r. ⌜ r ≡ operated o a b ⌝ }
 {
     match o {

@@ -113,7 +113,7 @@ impl State {
     }
 
     // One instruction of thread t.
-    pub fn execute(&mut self, t: u8, i: Instr) -> Result<Outcome, Refusal>
+    pub(crate) fn execute(&mut self, t: u8, i: Instr) -> Result<Outcome, Refusal>
         requires { ⌜ Steps (now self) t × Valid i ⌝ }
         ensures value { λ r. ⌜ r ≡ said (run-instr i (machine-of (now (self .entry))) t (nth-thread (machine-of (now (self .entry))) t)) ⌝ }
         ensures after { λ _. ⌜ machine-of (now (self .exit)) ≡ after (machine-of (now (self .entry))) (run-instr i (machine-of (now (self .entry))) t (nth-thread (machine-of (now (self .entry))) t)) ⌝ }
@@ -127,7 +127,7 @@ impl State {
     }
 
     // What stands past the end of a method's code: the thread ends.
-    pub fn end(&mut self, t: u8) -> Outcome
+    pub(crate) fn end(&mut self, t: u8) -> Outcome
         requires { ⌜ Ready (now self) t ⌝ }
         ensures value { λ r. ⌜ r ≡ Outcome.Ended Reason.Finished ⌝ }
         ensures after { λ _. ⌜ machine-of (now (self .exit)) ≡ after (machine-of (now (self .entry))) (run-instr (Instr.Own Own.End) (machine-of (now (self .entry))) t (nth-thread (machine-of (now (self .entry))) t)) ⌝ }
@@ -164,7 +164,7 @@ impl State {
     }
 
     // Where a thread stands that can be stepped.
-    pub fn ready(&self, t: u8) -> Result<Stand, Refusal>
+    pub(crate) fn ready(&self, t: u8) -> Result<Stand, Refusal>
         ensures value { λ r. ⌜ r ≡ ready-of (machine-of (now (self .entry))) t ⌝ }
         ensures there { λ r. ⌜ made r (λ s. Ready (now (self .entry)) t × (s .method ≡ stored (now (self .entry)) t .top .method) × (s .index ≡ stored (now (self .entry)) t .top .index)) ⌝ }
     {
@@ -173,7 +173,7 @@ impl State {
     }
 
     // Where a thread stands that awaits an answer.
-    pub fn awaiting(&self, t: u8) -> Result<Stand, Refusal>
+    pub(crate) fn awaiting(&self, t: u8) -> Result<Stand, Refusal>
         ensures value { λ r. ⌜ r ≡ awaiting-of (machine-of (now (self .entry))) t ⌝ }
         ensures there { λ r. ⌜ made r (λ s. (t < 8) × (t < now (self .entry) .count) × (s .index < 65536)) ⌝ }
     {
@@ -182,7 +182,7 @@ impl State {
     }
 
     // Thread t goes on at an index with its answer in r0, and in a4 if it holds the lock.
-    pub fn resume(&mut self, t: u8, index: u32, v: i32)
+    pub(crate) fn resume(&mut self, t: u8, index: u32, v: i32)
         requires { ⌜ (t < 8) × (t < now self .count) ⌝ }
         ensures { λ _. ⌜ machine-of (now (self .exit)) ≡ resumed (machine-of (now (self .entry))) t index v ⌝ }
     {

@@ -59,7 +59,7 @@ pub struct Stand {
 
 impl Thread {
     // Where it stands, if it can be stepped.
-    pub fn ready(&self) -> Result<Stand, Refusal>
+    pub(crate) fn ready(&self) -> Result<Stand, Refusal>
         ensures value { λ r. ⌜ r ≡ ready-by (thread-of (now (self .entry))) (now (self .entry) .status) ⌝ }
         ensures ready { λ r. ⌜ made r (λ s. (now (self .entry) .status ≡ IsReady) × (s .method ≡ now (self .entry) .top .method) × (s .index ≡ now (self .entry) .top .index)) ⌝ }
     {
@@ -74,7 +74,7 @@ impl Thread {
     }
 
     // Where it stands, if it awaits an answer.
-    pub fn awaiting(&self) -> Result<Stand, Refusal>
+    pub(crate) fn awaiting(&self) -> Result<Stand, Refusal>
         ensures value { λ r. ⌜ r ≡ awaiting-by (thread-of (now (self .entry))) (now (self .entry) .status) ⌝ }
         ensures low { λ r. ⌜ made r (λ s. s .index < 65536) ⌝ }
     {
@@ -89,7 +89,7 @@ impl Thread {
     }
 
     // Goes on at an index, with a number in r0.
-    pub fn resume(&mut self, index: u32, v: i32)
+    pub(crate) fn resume(&mut self, index: u32, v: i32)
         ensures { λ _. ⌜ thread-of (now (self .exit)) ≡ going-on (thread-of (now (self .entry))) index v ⌝ }
     {
         self.status = Status::Ready;
@@ -98,7 +98,7 @@ impl Thread {
     }
 
     // How many frames lie below the topmost one.
-    pub fn below(&self) -> u8
+    pub(crate) fn below(&self) -> u8
         ensures count { λ r. ⌜ r ≡ length (thread-of (now (self .entry)) .callers) ⌝ }
         ensures stored { λ r. ⌜ r ≡ min (now (self .entry) .depth) 15 ⌝ }
     {
@@ -106,7 +106,7 @@ impl Thread {
     }
 
     // The index of the topmost frame.
-    pub fn index(&self) -> u32
+    pub(crate) fn index(&self) -> u32
         ensures { λ r. ⌜ r ≡ thread-of (now (self .entry)) .top .index ⌝ }
     {
         match self.status {
@@ -117,7 +117,7 @@ impl Thread {
     }
 
     // Register x.
-    pub fn reg(&self, x: u8) -> i32
+    pub(crate) fn reg(&self, x: u8) -> i32
         requires { ⌜ x < 8 ⌝ }
         ensures { λ r. ⌜ r ≡ reg-of (thread-of (now (self .entry)) .top) x ⌝ }
     {
@@ -125,7 +125,7 @@ impl Thread {
     }
 
     // Sets a register, and goes on.
-    pub fn put(&mut self, x: u8, v: i32)
+    pub(crate) fn put(&mut self, x: u8, v: i32)
         requires { ⌜ (x < 8) × (now self .status ≡ IsReady) × (now self .top .index < 65536) ⌝ }
         ensures { λ _. ⌜ thread-of (now (self .exit)) ≡ with-top (thread-of (now (self .entry))) (writing (thread-of (now (self .entry)) .top) x v) ⌝ }
     {
@@ -133,7 +133,7 @@ impl Thread {
         self.top.index += 1;
     }
 
-    pub fn goto(&mut self, to: u32)
+    pub(crate) fn goto(&mut self, to: u32)
         requires { ⌜ now self .status ≡ IsReady ⌝ }
         ensures { λ _. ⌜ thread-of (now (self .exit)) ≡ with-top (thread-of (now (self .entry))) (going (thread-of (now (self .entry)) .top) to) ⌝ }
     {
@@ -141,7 +141,7 @@ impl Thread {
     }
 
     // Goes on behind its instruction.
-    pub fn next(&mut self)
+    pub(crate) fn next(&mut self)
         requires { ⌜ (now self .status ≡ IsReady) × (now self .top .index < 65536) ⌝ }
         ensures { λ _. ⌜ thread-of (now (self .exit)) ≡ onward (thread-of (now (self .entry))) ⌝ }
     {
@@ -149,14 +149,14 @@ impl Thread {
     }
 
     // Goes on behind its instruction and n more.
-    pub fn skip(&mut self, n: u16)
+    pub(crate) fn skip(&mut self, n: u16)
         requires { ⌜ (now self .status ≡ IsReady) × (now self .top .index < 65536) ⌝ }
         ensures { λ _. ⌜ thread-of (now (self .exit)) ≡ with-top (thread-of (now (self .entry))) (going (thread-of (now (self .entry)) .top) (thread-of (now (self .entry)) .top .index + 1 + n)) ⌝ }
     {
         self.top.index = self.top.index + 1 + n as u32;
     }
 
-    pub fn end(&mut self)
+    pub(crate) fn end(&mut self)
         requires { ⌜ now self .status ≡ IsReady ⌝ }
         ensures { λ _. ⌜ thread-of (now (self .exit)) ≡ with-status (thread-of (now (self .entry))) IsEnded ⌝ }
     {
@@ -172,7 +172,7 @@ impl Thread {
     }
 
     // r0 to r3.
-    pub fn arguments(&self) -> [i32; 4]
+    pub(crate) fn arguments(&self) -> [i32; 4]
         ensures { λ r. ⌜ r ≡ take 4 (now (self .entry) .top .regs) ⌝ }
     {
         [
@@ -241,7 +241,7 @@ impl Thread {
     }
 
     // An instruction of the applet's own.
-    pub fn run(&mut self, i: Own, shared: &mut [i32; 64]) -> Outcome
+    pub(crate) fn run(&mut self, i: Own, shared: &mut [i32; 64]) -> Outcome
         requires { ⌜ OwnValid i × (now self .status ≡ IsReady) × (now self .top .index < 65536) ⌝ }
         ensures says { λ r. ⌜ r ≡ local i (thread-of (now (self .entry))) (now (shared .entry)) .says ⌝ }
         ensures after { λ _. ⌜ thread-of (now (self .exit)) ≡ local i (thread-of (now (self .entry))) (now (shared .entry)) .after ⌝ }

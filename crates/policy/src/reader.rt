@@ -157,7 +157,7 @@ fn check_apart(file: &[u8], n: u8) -> Result<(), Refusal>
 }
 
 // What is wrong with a file as a state table, if anything.
-pub fn check_table(file: &[u8]) -> Result<(), Refusal>
+pub(crate) fn check_table(file: &[u8]) -> Result<(), Refusal>
     ensures { λ r. ⌜ r ≡ table-answer (now (file .entry)) ⌝ }
 {
     if file.len() > LONGEST {

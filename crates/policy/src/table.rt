@@ -75,7 +75,7 @@ fn is_moment(n: u8, moment: Moment) -> bool
 }
 
 // Whether a row is for that call and moment.
-pub fn is_row_for(row: &[u8], call: u8, moment: Moment) -> bool
+pub(crate) fn is_row_for(row: &[u8], call: u8, moment: Moment) -> bool
     requires { ⌜ 2 ≤ length (now row) ⌝ }
     ensures { λ r. ⌜ r ≡ row-for call moment (row-in (now (row .entry))) ⌝ }
 {

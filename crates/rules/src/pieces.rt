@@ -16,7 +16,7 @@ pub struct Piece<'a> {
 }
 
 // The field that is due at a place of a holder.
-pub fn due<'a>(holder: &'a [u8], tag: u8, at: usize) -> Result<Piece<'a>, Refusal>
+pub(crate) fn due<'a>(holder: &'a [u8], tag: u8, at: usize) -> Result<Piece<'a>, Refusal>
     requires { ⌜ a-tag tag ≡ true ⌝ }
     ensures { λ r. ⌜ seen r ≡ piece-of (expect BadPolicyField tag at (drop at (now (holder .entry)))) ⌝ }
 {

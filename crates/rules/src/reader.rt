@@ -33,7 +33,7 @@ fn earlier(a: Option<usize>, b: Option<usize>) -> Option<usize>
     }
 }
 
-pub fn moment(b: u8) -> Moment
+pub(crate) fn moment(b: u8) -> Moment
     ensures { λ r. ⌜ r ≡ moment-of b ⌝ }
 {
     match b {
@@ -155,7 +155,7 @@ fn heading(c: &[u8]) -> bool
 }
 
 // The head and the start values.
-pub fn open(file: &[u8]) -> Result<Opening, Refusal>
+pub(crate) fn open(file: &[u8]) -> Result<Opening, Refusal>
     ensures { λ r. ⌜ r ≡ opened (now (file .entry)) ⌝ }
 {
     if file.len() > 65535 {

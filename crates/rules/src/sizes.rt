@@ -33,14 +33,14 @@ fn same(a: Moment, b: Moment) -> bool
 }
 
 // Whether a rule is for a call and a moment, by its own.
-pub fn is_for(rule_call: u8, rule_moment: Moment, call: u8, moment: Moment) -> bool
+pub(crate) fn is_for(rule_call: u8, rule_moment: Moment, call: u8, moment: Moment) -> bool
     ensures { λ r. ⌜ r ≡ eqb «rule_call» call && same-moment «rule_moment» moment ⌝ }
 {
     rule_call == call && same(rule_moment, moment)
 }
 
 // How many instructions updates make.
-pub fn updates_len(updates: &[u8]) -> usize
+pub(crate) fn updates_len(updates: &[u8]) -> usize
     ensures value { λ r. ⌜ ((n a : ℕ) (us : List Update) → WrittenUpdates n a (now (updates .entry)) us → r ≡ length (emit-updates 0 us)) ⌝ }
     ensures small { λ r. ⌜ r ≤ length (now (updates .entry)) ⌝ }
 {
@@ -55,7 +55,7 @@ pub fn updates_len(updates: &[u8]) -> usize
 }
 
 // How many instructions the block for a call and a moment has.
-pub fn block_len(rules: &[u8], call: u8, moment: Moment) -> usize
+pub(crate) fn block_len(rules: &[u8], call: u8, moment: Moment) -> usize
     ensures { λ r. ⌜ ((n : ℕ) (rs : List Rule) → Written n (now (rules .entry)) rs → r ≡ length (block-of 0 (rules-of rs call moment))) ⌝ }
 {
     let mut len: usize = 0;
@@ -71,7 +71,7 @@ pub fn block_len(rules: &[u8], call: u8, moment: Moment) -> usize
 }
 
 // Whether every block has at most 1,000 instructions.
-pub fn short_blocks(rules: &[u8]) -> bool
+pub(crate) fn short_blocks(rules: &[u8]) -> bool
     ensures { λ b. ⌜ ((n : ℕ) (rs : List Rule) → Written n (now (rules .entry)) rs → b ≡ every (λ r. leb (length (block-of 0 (rules-of rs (r .call) (r .moment)))) 1000) rs) ⌝ }
 {
     let mut rest = rules;

@@ -76,7 +76,7 @@ fn search<'a>(
 }
 
 // Whether there is a rule for a call.
-pub fn has_rule(rules: &[u8], call: u8) -> bool
+pub(crate) fn has_rule(rules: &[u8], call: u8) -> bool
     ensures { λ r. ⌜ ((n : ℕ) (rs : List Rule) → Written n (now (rules .entry)) rs → r ≡ has-rule call rs) ⌝ }
 {
     let mut rest = rules;
@@ -91,7 +91,7 @@ pub fn has_rule(rules: &[u8], call: u8) -> bool
 }
 
 // Steps cells by an event, with the arguments and the answer in one row.
-pub fn step_cells(
+pub(crate) fn step_cells(
     rules: &[u8],
     width: u8,
     call: u8,
@@ -121,7 +121,7 @@ fn number(bytes: &[u8], at: usize) -> i32
 }
 
 // Writes the start values, four bytes each, into the first cells of a row that has room for them.
-pub fn start_cells(bytes: &[u8], cells: &mut [i32])
+pub(crate) fn start_cells(bytes: &[u8], cells: &mut [i32])
     requires { ⌜ length (now bytes) ≤ 4 * length (now cells) ⌝ }
     ensures { λ _. ⌜ now (cells .exit) ≡ map signed-of (quads (now (bytes .entry))) ++ drop (length (quads (now (bytes .entry)))) (now (cells .entry)) ⌝ }
 {

@@ -24,7 +24,7 @@ pub enum Token {
 }
 
 // How many of a0 to a4 a rule for this moment may read.
-pub fn arguments(t: Moment) -> u8
+pub(crate) fn arguments(t: Moment) -> u8
     ensures { λ r. ⌜ r ≡ readable t ⌝ }
 {
     match t {
@@ -56,7 +56,7 @@ fn operator(y: u16) -> Operator
 impl Token {
     // The token of a kind and a number, in a policy of so many cells where so many arguments may be
     // read.
-    pub fn new(kind: u8, y: u16, cells: u8, arguments: u8) -> Option<Token>
+    pub(crate) fn new(kind: u8, y: u16, cells: u8, arguments: u8) -> Option<Token>
         ensures { λ r. ⌜ mapped meant r ≡ token cells arguments kind y ⌝ }
     {
         match kind {
@@ -69,7 +69,7 @@ impl Token {
     }
 
     // The token at an index of an expression, none if fewer than three bytes are left.
-    pub fn at(c: &[u8], i: usize, cells: u8, arguments: u8) -> Option<Token>
+    pub(crate) fn at(c: &[u8], i: usize, cells: u8, arguments: u8) -> Option<Token>
         requires { ⌜ i ≤ length (now c) ⌝ }
         ensures { λ r. ⌜ mapped meant r ≡ first-token cells arguments (drop i (now (c .entry))) ⌝ }
     {
@@ -82,7 +82,7 @@ impl Token {
 
     // How many values are held behind the token, with so many before it: none if there are too few
     // for an operator, or if there is no room for one more.
-    pub fn held(&self, d: u8) -> Option<u8>
+    pub(crate) fn held(&self, d: u8) -> Option<u8>
         ensures { λ r. ⌜ r ≡ cond (room d (meant (now (self .entry)))) (Some (after d (meant (now (self .entry))))) None ⌝ }
     {
         match *self {
@@ -95,7 +95,7 @@ impl Token {
 }
 
 // Whether the bytes are tokens that hold at most eight values, and one at the end.
-pub fn balanced(c: &[u8], cells: u8, arguments: u8) -> bool
+pub(crate) fn balanced(c: &[u8], cells: u8, arguments: u8) -> bool
     ensures { λ r. ⌜ r ≡ well-held 0 (tokens cells arguments (now (c .entry))) ⌝ }
 {
     let mut d = 0;

@@ -27,7 +27,7 @@ fn difference(a: i32, b: i32) -> i32
 }
 
 // Whether two numbers are equal.
-pub fn equal(a: i32, b: i32) -> bool
+pub(crate) fn equal(a: i32, b: i32) -> bool
     ensures { λ r. ⌜ r ≡ eqZ a b ⌝ }
 {
     a == b
@@ -72,7 +72,7 @@ fn apply(t: Token, stack: &mut [i32; 8], d: u8, args: &[i32; 5], cells: &[i32])
 }
 
 // The value of a written expression, in a policy of so many cells where so many arguments may be read.
-pub fn evaluate(c: &[u8], width: u8, readable: u8, args: &[i32; 5], cells: &[i32]) -> i32
+pub(crate) fn evaluate(c: &[u8], width: u8, readable: u8, args: &[i32; 5], cells: &[i32]) -> i32
     ensures { λ r. ⌜ ((ts : Expr) → now (c .entry) ≡ expr-bytes ts → Valid-expr width readable ts → r ≡ valued (now (args .entry)) (now (cells .entry)) ts) ⌝ }
 {
     let mut stack = [0; 8];

@@ -61,7 +61,7 @@ fn split<'a>(bytes: &'a [u8]) -> Front<'a>
 }
 
 // The first of written rules.
-pub fn first_rule<'a>(bytes: &'a [u8]) -> RuleView<'a>
+pub(crate) fn first_rule<'a>(bytes: &'a [u8]) -> RuleView<'a>
     ensures parts { λ v. ⌜ ((n : ℕ) (r : Rule) (z : List ℕ) → Valid-rule n r → now (bytes .entry) ≡ rule-bytes r ++ z → rule-view v ≡ rule-shown r z) ⌝ }
     ensures less { λ v. ⌜ length (now (v .guard)) + length (now (v .updates)) + length (now (v .rest)) ≤ length (now (bytes .entry)) - 1 ⌝ }
 {
@@ -87,7 +87,7 @@ pub fn first_rule<'a>(bytes: &'a [u8]) -> RuleView<'a>
 }
 
 // The first of written updates.
-pub fn first_update<'a>(bytes: &'a [u8]) -> UpdateView<'a>
+pub(crate) fn first_update<'a>(bytes: &'a [u8]) -> UpdateView<'a>
     ensures parts { λ v. ⌜ ((n a : ℕ) (u : Update) (z : List ℕ) → Valid-update n a u → now (bytes .entry) ≡ update-bytes u ++ z → update-view v ≡ update-shown u z) ⌝ }
     ensures less { λ v. ⌜ length (now (v .value)) + length (now (v .rest)) ≤ length (now (bytes .entry)) - 1 ⌝ }
 {

@@ -52,7 +52,11 @@ fn refused(rt: &LibcRuntime, r: &Refusal) -> Result<Ended, AnyError> {
     let place = r.place();
     println!(rt, "refused {number} {place}")?;
     let what = words::meaning(r);
-    println!(rt, "at byte {place}: {what}")?;
+    if words::has_place(r) {
+        println!(rt, "at byte {place}: {what}")?;
+    } else {
+        println!(rt, "{what}")?;
+    }
     Ok(Ended::Refused)
 }
 
