@@ -18,6 +18,7 @@ unsafe extern "C" {
         times: u32,
     ) -> u32;
     fn station_run(applet: *const u8, len: usize, steps: u32) -> u64;
+    fn station_run_in_turn(applet: *const u8, len: usize, last: u8, steps: u32) -> u64;
 }
 
 /// Before events of one call, over one policy or a pair.
@@ -55,24 +56,29 @@ impl Events {
     }
 }
 
-fn run_proved(file: &[u8], steps: u32) -> u64 {
-    unsafe { station_run(file.as_ptr(), file.len(), steps) }
+/// Steps of the threads up to the last in turn.
+fn run_proved(file: &[u8], last: u8, steps: u32) -> u64 {
+    match last {
+        0 => unsafe { station_run(file.as_ptr(), file.len(), steps) },
+        _ => unsafe { station_run_in_turn(file.as_ptr(), file.len(), last, steps) },
+    }
 }
 
-fn run_plain(file: &[u8], steps: u32) -> u64 {
+fn run_plain(file: &[u8], last: u8, steps: u32) -> u64 {
     let Ok(mut m) = baseline::Machine::load(file) else {
         return 0;
     };
-    let mut n = 0;
+    let (mut n, mut t) = (0, 0);
     for _ in 0..steps {
-        match m.step_call(0) {
-            baseline::Said::Refused(_) => continue,
+        match m.step_call(t) {
+            baseline::Said::Refused(_) => {}
             baseline::Said::Call(..) => {
-                let _ = m.answer(0, false, 0);
+                let _ = m.answer(t, false, 0);
+                n += 1;
             }
-            _ => {}
+            _ => n += 1,
         }
-        n += 1;
+        t = if t < last as usize { t + 1 } else { 0 };
     }
     n
 }
@@ -100,10 +106,10 @@ fn policy(cells: u8, rules: &[Vec<u8>]) -> Vec<u8> {
     [field(65, &[1, cells]), field(66, &vec![0; 4 * cells as usize]), rules.concat()].concat()
 }
 
-/// An applet of one thread, in method 0.
-fn applet(methods: &[Vec<[u8; 4]>]) -> Vec<u8> {
+/// An applet whose threads start in method 0, one for each zero.
+fn applet(threads: &[u8], methods: &[Vec<[u8; 4]>]) -> Vec<u8> {
     let code: Vec<u8> = methods.iter().flat_map(|m| field(4, &m.concat())).collect();
-    [field(1, &[1, methods.len() as u8]), field(2, &[0]), field(3, &[0; 16]), code].concat()
+    [field(1, &[1, methods.len() as u8]), field(2, threads), field(3, &[0; 16]), code].concat()
 }
 
 /// A method that begins anew behind its instructions.
@@ -211,15 +217,17 @@ fn main() {
         measure(name, turns, a0 < 100, |n| e.proved(n), |n| e.plain(n));
     }
     heading("steps of the machine");
-    let counting = vec![[0x01, 1, 0, 1], [0x03, 0, 0, 1], [0x05, 2, 0, 1], [0x0A, 2, 0, 0]];
+    let counting = || vec![[0x01, 1, 0, 1], [0x03, 0, 0, 1], [0x05, 2, 0, 1], [0x0A, 2, 0, 0]];
+    let calls = vec![[0x0B, 0, 0, 1]; 64];
     let cases = [
-        ("SET, ADD, LT, BRZ, JUMP", applet(&[again(counting)])),
-        ("CALL and RET", applet(&[again(vec![[0x0B, 0, 0, 1]; 64]), vec![[0x0C, 0, 0, 0]]])),
-        ("tests of a rule's block", applet(&[again(guarded(4000))])),
-        ("tests in mixed order", applet(&[again(tests(4000))])),
-        ("HOST and its answer", applet(&[again(vec![[0x0D, 3, 0, 0]; 64])])),
+        ("SET, ADD, LT, BRZ, JUMP", applet(&[0], &[again(counting())]), 0),
+        ("the same, 8 threads in turn", applet(&[0; 8], &[again(counting())]), 7),
+        ("CALL and RET", applet(&[0], &[again(calls), vec![[0x0C, 0, 0, 0]]]), 0),
+        ("tests of a rule's block", applet(&[0], &[again(guarded(4000))]), 0),
+        ("tests in mixed order", applet(&[0], &[again(tests(4000))]), 0),
+        ("HOST and its answer", applet(&[0], &[again(vec![[0x0D, 3, 0, 0]; 64])]), 0),
     ];
-    for (name, file) in &cases {
-        measure(name, 500_000, true, |n| run_proved(file, n), |n| run_plain(file, n));
+    for (name, file, last) in &cases {
+        measure(name, 500_000, true, |n| run_proved(file, *last, n), |n| run_plain(file, *last, n));
     }
 }

@@ -61,11 +61,11 @@ pub extern "C" fn station_pair_steps(
     )
 }
 
-// One step of a machine's first thread; a call is answered normally with 0. Whether it worked.
-fn works(m: &mut Machine<'_>) -> bool {
-    match m.step(0) {
+// One step of a thread; a call is answered normally with 0. Whether it worked.
+fn works(m: &mut Machine<'_>, thread: u8) -> bool {
+    match m.step(thread) {
         Ok(Outcome::Called(_, _)) => {
-            let _ = m.answer(0, false, 0);
+            let _ = m.answer(thread, false, 0);
             true
         }
         Ok(_) => true,
@@ -81,9 +81,27 @@ pub extern "C" fn station_run(applet: &[u8], steps: u32) -> u64
     let mut n = 0;
     if let Ok(mut m) = Machine::load(applet) {
         for i in 0..steps {
-            if works(&mut m) {
+            if works(&mut m, 0) {
                 n += 1;
             }
+        }
+    }
+    n
+}
+
+// The same with its threads in turn, from the first to the one with the last number.
+#[unsafe(no_mangle)]
+pub extern "C" fn station_run_in_turn(applet: &[u8], last: u8, steps: u32) -> u64
+    ensures { λ r. ⌜ r ≤ steps ⌝ }
+{
+    let mut n = 0;
+    if let Ok(mut m) = Machine::load(applet) {
+        let mut thread = 0;
+        for i in 0..steps {
+            if works(&mut m, thread) {
+                n += 1;
+            }
+            thread = if thread < last { thread + 1 } else { 0 };
         }
     }
     n
