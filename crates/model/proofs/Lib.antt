@@ -40,6 +40,7 @@ pub mod PairBlocks
 pub mod PolicyRoundTrip
 pub mod PolicyAccepted
 pub mod EnforcedPolicies
+pub mod TableFiles
 -- the calls on a policy, and the watch
 pub mod Rows
 pub mod Watch

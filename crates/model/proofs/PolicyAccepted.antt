@@ -33,7 +33,7 @@ use Rattle.model.specs.declared.Refusal.the-variants.{BadPolicyField, BadExpre
 use Rattle.model.specs.Words.{operator-of}
 use Rattle.model.proofs.Words.{operator-there}
 
-tested-is : (t : Bool) (p : ℕ) (c : List ℕ) (x : Field) → tested t p c ≡ Ok x → (t ≡ true) × (record { place = p; contents = c } ≡ x)
+pub tested-is : (t : Bool) (p : ℕ) (c : List ℕ) (x : Field) → tested t p c ≡ Ok x → (t ≡ true) × (record { place = p; contents = c } ≡ x)
 tested-is t p c x e = needed _ _ _ _ e λ h e. (h, cc)
 
 module _ {X : Type 0} (tag : ℕ) (one : ℕ → List ℕ → Read X) (bytes : X → List ℕ) (Q P : X → Type 0)
@@ -72,7 +72,7 @@ three-bytes (x ∷ y ∷ []) e h = absurd (omega arith)
 three-bytes (x ∷ y ∷ z ∷ []) e h = ap {B = List ℕ} (λ t. t ∷ y ∷ z ∷ []) (sym h)
 three-bytes (x ∷ y ∷ z ∷ u ∷ r) e h = absurd (omega arith)
 
-all-four : (a b c d : Bool) → a && b && c && d ≡ true → (a ≡ true) × (b ≡ true) × (c ≡ true) × (d ≡ true)
+pub all-four : (a b c d : Bool) → a && b && c && d ≡ true → (a ≡ true) × (b ≡ true) × (c ≡ true) × (d ≡ true)
 all-four true b c d e = let p = and-parts (b && c) d e in let q = and-parts b c (p .0) in (refl, q .0, q .1, p .1)
 all-four false b c d e = absurd (false≢true e)
 

@@ -3,14 +3,15 @@ use mathlib.Core.Path.{_≡_}
 use mathlib.Core.Logic.{_⊎_}
 use mathlib.Core.Bool.{Bool, true, false, cond, _&&_, _||_, not}
 use mathlib.Core.List.{List, [], _∷_, _++_}
-use Prim.Native.Nat.{ℕ, _+_, _<_, _≤_}
+use Prim.Native.Nat.{ℕ, zero, suc, _+_, _<_, _≤_}
 use lib.Dec.{eqb, leb, ltb}
 use lib.ListN.{length, getD, set, drop}
 use lib.IntN.{ℤ, pos, negsuc}
 use Rattle.std.specs.shelf.Lists.{joined, All}
 use Rattle.std.specs.declared.option.Option.{Option}
 use Rattle.std.specs.declared.option.Option.the-variants.{Some, None}
-use Rattle.std.specs.declared.result.Result.the-variants.{Ok}
+use Rattle.std.specs.Results.{isOk}
+use Rattle.std.specs.declared.result.Result.the-variants.{Ok, Err}
 use Rattle.model.specs.declared.Moment.{Moment}
 use Rattle.model.specs.declared.Operator.the-variants.{Equal}
 use Rattle.model.specs.Moments.{moment-number, moment-of, same-moment}
@@ -137,3 +138,29 @@ pub record Valid-table (p : Table) : Type 0 where
   pub few : length (p .rows) ≤ 64
   pub rows : All (Valid-row (p .states)) (p .rows)
   pub apart : Apart [] (p .rows)
+
+-- it refuses call k in its only state
+abbrev pub refusing-row : ℕ → Row
+refusing-row k = record { call = k; moment = Moment.Before; nexts = 255 ∷ [] }
+
+-- n such rows, from call k on
+abbrev pub refusing-rows : ℕ → ℕ → List Row
+refusing-rows zero k = []
+refusing-rows (suc n) k = refusing-row k ∷ refusing-rows n (k + 1)
+
+-- the state table that refuses every call
+abbrev pub refusing-table : Table
+refusing-table = record { states = 1; start = 0; rows = refusing-rows 64 0 }
+
+-- a file reads as a state table
+abbrev pub reads-table : List ℕ → Bool
+reads-table f = isOk (read-table f)
+
+-- the table that was read; where none was, the one that refuses every call
+abbrev pub table-or-refusing : Read Table → Table
+table-or-refusing (Ok t) = t
+table-or-refusing (Err r) = refusing-table
+
+-- the table of a file
+unfoldable pub table-in : List ℕ → Table
+table-in f = table-or-refusing (read-table f)

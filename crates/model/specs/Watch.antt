@@ -38,6 +38,10 @@ abbrev pub watch-by : Watch → Read Watch → Watch
 watch-by w (Ok v) = v
 watch-by w (Err r) = w
 
+-- begin answers nothing but that it worked
+abbrev pub begin-answer : Automaton → Watch → Read (Unit {0})
+begin-answer A w = begin A w >>= (λ v. Ok tt)
+
 -- the watch after begin
 abbrev pub begun-after : Automaton → Watch → Watch
 begun-after A w = watch-by w (begin A w)

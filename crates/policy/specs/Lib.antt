@@ -1,0 +1,4 @@
+-- what the calls on any policy refuse first, and bytes written at a place of an area
+pub mod Calls
+-- rows of state tables
+pub mod Tables
