@@ -1,0 +1,4 @@
+-- woven indices
+pub mod Starts
+-- sites in bytes
+pub mod SiteBytes

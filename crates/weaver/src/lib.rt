@@ -1,0 +1,3 @@
+// Weaving: a plain applet becomes one with a policy's tests around each host call that it watches.
+mod code;
+mod sites;
