@@ -2,3 +2,7 @@
 pub mod Starts
 -- sites in bytes
 pub mod SiteBytes
+-- bytes written one after the other
+pub mod Bytes
+-- the woven code of a method
+pub mod WovenMethod

@@ -78,20 +78,6 @@ module _ (sizes : List ℕ) (cs : List Own) where
       go (inl z) = rw z (getD-set-same starts (i + 1) v 0 h ∙ e)
       go (inr z) = getD-set-other starts (i + 1) j v 0 z ∙ f j (omega arith)
 
--- past the end the index stays
-pub start-past : (sizes : List ℕ) (cs : List Own) (t : ℕ) → start-by sizes cs (min t (length cs)) ≡ start-by sizes cs t
-start-past sizes [] t = refl
-start-past sizes (c ∷ cs) zero = let e : min 0 (length (c ∷ cs)) ≡ 0 = omega arith in ap (start-by sizes (c ∷ cs)) e
-start-past sizes (c ∷ cs) (suc t) =
-    let e : min (suc t) (length (c ∷ cs)) ≡ suc (min t (length cs)) = omega arith in
-    ap (start-by sizes (c ∷ cs)) e ∙ ap (λ (n : ℕ). size-by sizes c + n) (start-past sizes cs t)
-
--- no index lies behind the end
-pub start-below : (sizes : List ℕ) (cs : List Own) (t : ℕ) → start-by sizes cs t ≤ start-by sizes cs (length cs)
-start-below sizes [] t = omega arith
-start-below sizes (c ∷ cs) zero = omega arith
-start-below sizes (c ∷ cs) (suc t) = let h = start-below sizes cs t in omega arith
-
 -- ---- the instruction at an index
 
 some-same : {X : Type 0} {x y : X} → Some x ≡ Some y → x ≡ y

@@ -78,7 +78,8 @@ fn start_of(starts: &[u32; 4097], count: usize, target: u16) -> u16
 pub fn retarget(c: Own, starts: &[u32; 4097], count: usize) -> Own
     requires count { ⌜ count ≤ 4096 ⌝ }
     requires starts { ⌜ ((j : ℕ) → j ≤ count → getD (now starts) j 0 ≤ 4096) ⌝ }
-    ensures { λ r. ⌜ r ≡ retargeted (λ t. getD (now (starts .entry)) (min t count) 0) c ⌝ }
+    ensures value { λ r. ⌜ r ≡ retargeted (λ t. getD (now (starts .entry)) (min t count) 0) c ⌝ }
+    ensures call { λ r. ⌜ (Called c → Called r) ⌝ }
 {
     match c {
         Own::Jump(t) => Own::Jump(start_of(starts, count, t)),
