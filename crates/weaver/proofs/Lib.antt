@@ -6,3 +6,5 @@ pub mod SiteBytes
 pub mod Bytes
 -- the woven code of a method
 pub mod WovenMethod
+-- the passes over an applet
+pub mod Passes

@@ -52,7 +52,7 @@ pub fn size_of(c: Own, sizes: &[u16; 64]) -> u16
 
 // Fills in the woven index of each of a method's indices and of its end, and answers the last.
 pub fn fill_starts(code: &[u8], methods: u8, sizes: &[u16; 64], starts: &mut [u32; 4097]) -> usize
-    requires { ⌜ length (now code) ≤ 16384 ⌝ }
+    requires { ⌜ length (now code) / 4 ≤ 4096 ⌝ }
     ensures end { λ r. ⌜ r ≡ start-by (now (sizes .entry)) (owns methods (now (code .entry))) (length (now (code .entry)) / 4) ⌝ }
     ensures starts { λ _. ⌜ ((j : ℕ) → j ≤ length (now (code .entry)) / 4 → getD (now (starts .exit)) j 0 ≡ start-by (now (sizes .entry)) (owns methods (now (code .entry))) j) ⌝ }
 {
