@@ -8,3 +8,7 @@ pub mod Bytes
 pub mod WovenMethod
 -- the passes over an applet
 pub mod Passes
+-- the woven file
+pub mod WovenFile
+-- weave, from bytes to bytes
+pub mod WholeWeave

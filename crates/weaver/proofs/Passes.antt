@@ -34,7 +34,7 @@ use Rattle.weaver.proofs.SiteBytes.{write-length}
 
 -- ---- a method
 
-all-at : {X : Type 0} (P : X → Type 0) (xs : List X) (i : ℕ) (d : X) → All P xs → i < length xs → P (getD xs i d)
+pub all-at : {X : Type 0} (P : X → Type 0) (xs : List X) (i : ℕ) (d : X) → All P xs → i < length xs → P (getD xs i d)
 all-at P [] i d h l = absurd (omega arith)
 all-at P (x ∷ xs) zero d h l = h .0
 all-at P (x ∷ xs) (suc i) d h l = all-at P xs i d (h .1) (omega arith)
@@ -163,7 +163,7 @@ codes-end at cs m h s = sym (at-drop-all (λ ds. forget (plain-codes at m ds)) c
 
 -- ---- a plain applet
 
-abbrev with-code : machine.Applet → List (List Own) → Plain
+abbrev pub with-code : machine.Applet → List (List Own) → Plain
 with-code a cs = record { entries = a .entries; code = cs }
 
 pub filled-cells : (a : machine.Applet) → 0 < length (a .starts) → Err (NotPlain (cells-place a)) ≡ forget (plain-of a)

@@ -24,7 +24,7 @@ use Rattle.model.proofs.CheckEntries.{start-retarget}
 use Rattle.applet.specs.Applets.{or-end}
 use Rattle.policy.specs.Calls.{put-at}
 use Rattle.weaver.specs.Pieces.{own-of, owns, Called, size-by, start-by, host-size}
-use Rattle.weaver.proofs.Starts.{decoded-called}
+use Rattle.weaver.proofs.Starts.{decoded-called, length-owns}
 use Rattle.weaver.proofs.SiteBytes.{Coded, coded-none, coded-more}
 
 module _ (w : ℕ → Bool) (block : ℕ → Moment → List Test) where
@@ -175,3 +175,8 @@ module _ (A : Automaton) (B : Blocks) (sizes : List ℕ) (right : (k : ℕ) → 
 
   pub start-same : (n : ℕ) (code : List ℕ) (j : ℕ) → start-by sizes (owns n code) j ≡ start (A .watched) blk (owns n code) j
   start-same n code j = same-starts (owns n code) j (all-called n (quads code))
+
+  -- the size that was found
+  pub found-size : (n : ℕ) (code : List ℕ) (end : ℕ) → end ≡ start-by sizes (owns n code) (length code / 4) → end ≡ length (woven (A .watched) blk (owns n code))
+  found-size n code end e =
+      e ∙ start-same n code (length code / 4) ∙ ap (start (A .watched) blk (owns n code)) (sym (length-owns n code)) ∙ sym (woven-length (A .watched) blk (owns n code))

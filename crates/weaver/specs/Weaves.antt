@@ -13,6 +13,7 @@ use Rattle.model.specs.Weave.{Plain, woven-applet}
 use Rattle.model.specs.Fields.{Read, need, _>>=_, _>>_}
 use Rattle.model.specs.Reading.{Valid, write-applet, method-place}
 use Rattle.model.specs.Files.{plain-of, sized}
+use Rattle.model.specs.Areas.{area-after}
 use Rattle.model.specs.declared.Refusal.the-variants.{AreaTooShort, FileTooLong}
 use Rattle.applet.specs.declared.reader.Applet.{Applet}
 use Rattle.applet.specs.Applets.{meant, Placed}
@@ -47,6 +48,18 @@ woven-file A B a area = do
   need (leb (length (write-applet w)) 65535) FileTooLong
   need (leb (length (write-applet w)) area) AreaTooShort
   Ok (write-applet w)
+
+-- how many bytes that writes
+abbrev pub woven-answer : Automaton → Blocks → machine.Applet → List ℕ → Read ℕ
+woven-answer A B a area = woven-file A B a (length area) >>= (λ g. Ok (length g))
+
+-- the area after it
+abbrev pub woven-area : Automaton → Blocks → machine.Applet → List ℕ → List ℕ
+woven-area A B a area = area-after area (woven-file A B a (length area))
+
+-- the length of the woven file, if each of its methods is within the limit
+abbrev pub woven-length : Automaton → Blocks → machine.Applet → Read ℕ
+woven-length A B a = sized (method-place a) 0 (woven-of A B a .methods) >> Ok (length (write-applet (woven-of A B a)))
 
 -- an applet that was read: its methods stand where the model has them, and it is within all limits
 pub record Sound (a : Applet) : Type 0 where

@@ -122,7 +122,7 @@ fn put_code<P: Policy>(
 }
 
 // Writes the field of a method's woven code, and answers the place behind it.
-fn put_method<P: Policy>(
+pub fn put_method<P: Policy>(
     p: &P,
     code: &[u8],
     methods: u8,

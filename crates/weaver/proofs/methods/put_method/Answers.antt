@@ -13,10 +13,9 @@ use Rattle.model.specs.Reading.{write-code}
 use Rattle.model.specs.Weave.{start, woven}
 use Rattle.policy.specs.Calls.{put-at}
 use Rattle.weaver.specs.Pieces.{owns, start-by}
-use Rattle.weaver.proofs.Starts.{length-owns}
 use Rattle.weaver.proofs.SiteBytes.{write-length}
 use Rattle.weaver.proofs.Bytes.{wrote-more, field-parts}
-use Rattle.weaver.proofs.WovenMethod.{woven-length, start-same}
+use Rattle.weaver.proofs.WovenMethod.{start-same, found-size}
 use Rattle.weaver.proofs.methods.put_method.Needs as need
 use Rattle.weaver.proofs.methods.put_method.Needs.{After-fill-starts-size}
 
@@ -37,8 +36,8 @@ module _ (g : _) (c : After-fill-starts-size g) where
   -- the size that was found
   size : c .fill-starts-size .result ≡ length (woven w block cs)
   size =
-      c .fill-starts-size .ensures .end ∙ same (length (now (c .args .code)) / 4) ∙ ap (start w block cs) (sym (length-owns (c .args .methods) (now (c .args .code)))) ∙
-      sym (woven-length w block cs)
+      found-size (g .P·Policy .meaning (now (c .args .p))) (g .P·Policy .blocks (now (c .args .p))) (now (c .args .sizes)) (c .pre .sizes) (c .args .methods) (now (c .args .code))
+      (c .fill-starts-size .result) (c .fill-starts-size .ensures .end)
 
 pub mul-size : need.mul-size
 mul-size g c = let e = size g (need.at·mul-size g c .After-fill-starts-size) in let short = c .pre .short in omega arith
