@@ -1,13 +1,14 @@
 -- A method's instructions, and how many stand for each in the woven code.
+use mathlib.Core.Path.{_≡_}
 use mathlib.Core.Bool.{cond}
 use mathlib.Core.List.{List, [], _∷_, map}
 use Prim.Native.Nat.{ℕ, zero, suc, _+_, _<_}
-use lib.ListN.{length, getD}
+use lib.ListN.{getD}
 use Rattle.model.specs.declared.Instr.{Instr}
 use Rattle.model.specs.declared.Own.{Own}
 use Rattle.model.specs.Policy.{Automaton, Blocks}
 use Rattle.model.specs.Words.{quads, decode}
-use Rattle.model.specs.Weave.{behind}
+use Rattle.model.specs.Weave.{behind, woven}
 use Rattle.applet.specs.Applets.{or-end}
 
 -- an instruction of the applet's own; END for any other
@@ -68,3 +69,11 @@ start-by sizes (c ∷ cs) (suc j) = size-by sizes c + start-by sizes cs j
 -- how many instructions stand for a HOST of call k
 abbrev pub host-size : Automaton → Blocks → ℕ → ℕ
 host-size A B k = cond (A .watched k) (suc (behind (λ k t. B k t 0) k)) 1
+
+-- the sizes are those of the calls
+abbrev pub HostSizes : Automaton → Blocks → List ℕ → Type 0
+HostSizes A B sizes = (k : ℕ) → k < 64 → getD sizes k 0 ≡ host-size A B k
+
+-- the woven code of a method's bytes, in an applet of n methods
+abbrev pub woven-code : Automaton → Blocks → ℕ → List ℕ → List Instr
+woven-code A B n code = woven (A .watched) (λ k t. B k t 0) (owns n code)

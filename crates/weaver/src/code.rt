@@ -5,12 +5,10 @@ ghost use lib.ListN.{length, getD};
 ghost use Rattle.model.specs.Words.{quad-at, decode as decoding};
 ghost use Rattle.model.specs.Weave.{retarget as retargeted};
 ghost use Rattle.applet.specs.Applets.{or-end};
-ghost use Rattle.weaver.specs.Pieces.{own-of, owns, Called, size-by, start-by, host-size};
+ghost use Rattle.weaver.specs.Pieces.{own-of, owns, Called, size-by, start-by};
 use applet::decode;
 use model::Instr;
-use model::Moment;
 use model::Own;
-use policy::Policy;
 
 // The instruction at an index of a method's code, END where the bytes are none.
 pub fn instr_at(code: &[u8], index: usize, methods: u8) -> Instr

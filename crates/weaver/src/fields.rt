@@ -1,11 +1,10 @@
 // Fields, written at a place of the area.
 ghost use mathlib.Core.Path.{_≡_};
 ghost use mathlib.Core.List.{[], _∷_, map};
-ghost use Prim.Native.Nat.{ℕ, _+_, _*_, _≤_, _<_};
-ghost use lib.ListN.{length, getD, take};
+ghost use Prim.Native.Nat.{_+_, _*_, _≤_};
+ghost use lib.ListN.{length, take};
 ghost use Rattle.model.specs.Words.{high, low, flat, quad-of};
 ghost use Rattle.model.specs.Fields.{field};
-ghost use Rattle.model.specs.Weaving.{Limited};
 ghost use Rattle.policy.specs.Calls.{put-at};
 use policy::Policy;
 

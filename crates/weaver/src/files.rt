@@ -1,14 +1,14 @@
 // Woven files.
 ghost use mathlib.Core.Path.{_≡_};
-ghost use Prim.Native.Nat.{ℕ, _+_, _*_, _≤_, _<_};
-ghost use lib.ListN.{length, getD};
+ghost use Prim.Native.Nat.{_+_, _≤_};
+ghost use lib.ListN.{length};
 ghost use Rattle.std.specs.shelf.Lists.{All};
 ghost use Rattle.model.specs.Areas.{over-area};
 ghost use Rattle.model.specs.Reading.{write-applet, write-codes};
 ghost use Rattle.model.specs.Weaving.{Limited};
 ghost use Rattle.applet.specs.Applets.{meant};
 ghost use Rattle.policy.specs.Calls.{put-at};
-ghost use Rattle.weaver.specs.Pieces.{host-size};
+ghost use Rattle.weaver.specs.Pieces.{HostSizes};
 ghost use Rattle.weaver.specs.Weaves.{Sound, woven-of, woven-length, woven-answer, woven-area};
 use crate::code::fill_starts;
 use crate::fields::put_field;
@@ -29,7 +29,7 @@ fn woven_len<P: Policy>(
     starts: &mut [u32; 4097],
 ) -> Result<usize, Refusal>
     requires limited { ⌜ Limited (meaning (now p)) (blocks (now p)) ⌝ }
-    requires sizes { ⌜ ((k : ℕ) → k < 64 → getD (now sizes) k 0 ≡ host-size (meaning (now p)) (blocks (now p)) k) ⌝ }
+    requires sizes { ⌜ HostSizes (meaning (now p)) (blocks (now p)) (now sizes) ⌝ }
     requires sound { ⌜ Sound (now applet) ⌝ }
     ensures { λ r. ⌜ r ≡ woven-length (meaning (now (p .entry))) (blocks (now (p .entry))) (meant (now (applet .entry))) ⌝ }
 {
@@ -57,7 +57,7 @@ fn put_methods<P: Policy>(
     at: usize,
 )
     requires limited { ⌜ Limited (meaning (now p)) (blocks (now p)) ⌝ }
-    requires sizes { ⌜ ((k : ℕ) → k < 64 → getD (now sizes) k 0 ≡ host-size (meaning (now p)) (blocks (now p)) k) ⌝ }
+    requires sizes { ⌜ HostSizes (meaning (now p)) (blocks (now p)) (now sizes) ⌝ }
     requires sound { ⌜ Sound (now applet) ⌝ }
     requires short { ⌜ All (λ c. length c ≤ 4096) (woven-of (meaning (now p)) (blocks (now p)) (meant (now applet)) .methods) ⌝ }
     requires room { ⌜ at + length (write-codes (woven-of (meaning (now p)) (blocks (now p)) (meant (now applet)) .methods)) ≤ length (now area) ⌝ }
@@ -81,7 +81,7 @@ fn put_file<P: Policy>(
     area: &mut [u8],
 )
     requires limited { ⌜ Limited (meaning (now p)) (blocks (now p)) ⌝ }
-    requires sizes { ⌜ ((k : ℕ) → k < 64 → getD (now sizes) k 0 ≡ host-size (meaning (now p)) (blocks (now p)) k) ⌝ }
+    requires sizes { ⌜ HostSizes (meaning (now p)) (blocks (now p)) (now sizes) ⌝ }
     requires sound { ⌜ Sound (now applet) ⌝ }
     requires short { ⌜ All (λ c. length c ≤ 4096) (woven-of (meaning (now p)) (blocks (now p)) (meant (now applet)) .methods) ⌝ }
     requires room { ⌜ length (write-applet (woven-of (meaning (now p)) (blocks (now p)) (meant (now applet)))) ≤ length (now area) ⌝ }

@@ -1,16 +1,16 @@
 // The methods of an applet, and their woven code.
 ghost use mathlib.Core.Path.{_≡_};
-ghost use Prim.Native.Nat.{ℕ, _+_, _*_, _/_, _≤_, _<_};
+ghost use Prim.Native.Nat.{ℕ, _+_, _*_, _/_, _≤_};
 ghost use lib.ListN.{length, getD};
 ghost use Rattle.std.specs.Options.{Cases as BySome};
 ghost use Rattle.model.specs.Reading.{write-code, instr-place};
 ghost use Rattle.model.specs.Files.{plain-code, plain-codes, plain-of};
 ghost use Rattle.applet.specs.Applets.{meant};
 ghost use Rattle.model.specs.Fields.{field};
-ghost use Rattle.model.specs.Weave.{start, woven};
+ghost use Rattle.model.specs.Weave.{start};
 ghost use Rattle.model.specs.Weaving.{Limited};
 ghost use Rattle.policy.specs.Calls.{put-at};
-ghost use Rattle.weaver.specs.Pieces.{instrs, owns, host-size};
+ghost use Rattle.weaver.specs.Pieces.{instrs, owns, HostSizes, woven-code};
 ghost use Rattle.weaver.specs.Weaves.{is-own, forget, Sound, MethodAt};
 use crate::code::fill_starts;
 use crate::code::instr_at;
@@ -104,13 +104,13 @@ fn put_code<P: Policy>(
     at: usize,
 ) -> usize
     requires limited { ⌜ Limited (meaning (now p)) (blocks (now p)) ⌝ }
-    requires sizes { ⌜ ((k : ℕ) → k < 64 → getD (now sizes) k 0 ≡ host-size (meaning (now p)) (blocks (now p)) k) ⌝ }
+    requires sizes { ⌜ HostSizes (meaning (now p)) (blocks (now p)) (now sizes) ⌝ }
     requires size { ⌜ length (now code) / 4 ≤ 4096 ⌝ }
     requires starts { ⌜ ((j : ℕ) → j ≤ length (now code) / 4 → getD (now starts) j 0 ≡ start (meaning (now p) .watched) (λ k t. blocks (now p) k t 0) (owns methods (now code)) j) ⌝ }
-    requires short { ⌜ length (woven (meaning (now p) .watched) (λ k t. blocks (now p) k t 0) (owns methods (now code))) ≤ 4096 ⌝ }
-    requires room { ⌜ at + 4 * length (woven (meaning (now p) .watched) (λ k t. blocks (now p) k t 0) (owns methods (now code))) ≤ length (now area) ⌝ }
-    ensures area { λ _. ⌜ now (area .exit) ≡ put-at (now (area .entry)) at (write-code (woven (meaning (now (p .entry)) .watched) (λ k t. blocks (now (p .entry)) k t 0) (owns methods (now (code .entry))))) ⌝ }
-    ensures behind { λ r. ⌜ r ≡ at + 4 * length (woven (meaning (now (p .entry)) .watched) (λ k t. blocks (now (p .entry)) k t 0) (owns methods (now (code .entry)))) ⌝ }
+    requires short { ⌜ length (woven-code (meaning (now p)) (blocks (now p)) methods (now code)) ≤ 4096 ⌝ }
+    requires room { ⌜ at + 4 * length (woven-code (meaning (now p)) (blocks (now p)) methods (now code)) ≤ length (now area) ⌝ }
+    ensures area { λ _. ⌜ now (area .exit) ≡ put-at (now (area .entry)) at (write-code (woven-code (meaning (now (p .entry))) (blocks (now (p .entry))) methods (now (code .entry)))) ⌝ }
+    ensures behind { λ r. ⌜ r ≡ at + 4 * length (woven-code (meaning (now (p .entry))) (blocks (now (p .entry))) methods (now (code .entry))) ⌝ }
 {
     let count = code.len() / 4;
     let mut to = at;
@@ -132,12 +132,12 @@ pub fn put_method<P: Policy>(
     at: usize,
 ) -> usize
     requires limited { ⌜ Limited (meaning (now p)) (blocks (now p)) ⌝ }
-    requires sizes { ⌜ ((k : ℕ) → k < 64 → getD (now sizes) k 0 ≡ host-size (meaning (now p)) (blocks (now p)) k) ⌝ }
+    requires sizes { ⌜ HostSizes (meaning (now p)) (blocks (now p)) (now sizes) ⌝ }
     requires size { ⌜ length (now code) / 4 ≤ 4096 ⌝ }
-    requires short { ⌜ length (woven (meaning (now p) .watched) (λ k t. blocks (now p) k t 0) (owns methods (now code))) ≤ 4096 ⌝ }
-    requires room { ⌜ at + (3 + 4 * length (woven (meaning (now p) .watched) (λ k t. blocks (now p) k t 0) (owns methods (now code)))) ≤ length (now area) ⌝ }
-    ensures area { λ _. ⌜ now (area .exit) ≡ put-at (now (area .entry)) at (field 4 (write-code (woven (meaning (now (p .entry)) .watched) (λ k t. blocks (now (p .entry)) k t 0) (owns methods (now (code .entry)))))) ⌝ }
-    ensures behind { λ r. ⌜ r ≡ at + (3 + 4 * length (woven (meaning (now (p .entry)) .watched) (λ k t. blocks (now (p .entry)) k t 0) (owns methods (now (code .entry))))) ⌝ }
+    requires short { ⌜ length (woven-code (meaning (now p)) (blocks (now p)) methods (now code)) ≤ 4096 ⌝ }
+    requires room { ⌜ at + (3 + 4 * length (woven-code (meaning (now p)) (blocks (now p)) methods (now code))) ≤ length (now area) ⌝ }
+    ensures area { λ _. ⌜ now (area .exit) ≡ put-at (now (area .entry)) at (field 4 (write-code (woven-code (meaning (now (p .entry))) (blocks (now (p .entry))) methods (now (code .entry))))) ⌝ }
+    ensures behind { λ r. ⌜ r ≡ at + (3 + 4 * length (woven-code (meaning (now (p .entry))) (blocks (now (p .entry))) methods (now (code .entry)))) ⌝ }
 {
     let size = fill_starts(code, methods, sizes, starts);
     let at = put_head(area, at, 4, 4 * size);

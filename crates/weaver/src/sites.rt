@@ -1,14 +1,14 @@
 // Sites: what stands for a watched call.
 ghost use mathlib.Core.Path.{_≡_};
-ghost use mathlib.Core.List.{[], _∷_, map};
-ghost use Prim.Native.Nat.{ℕ, _+_, _*_, _≤_, _<_};
-ghost use lib.ListN.{length, getD};
+ghost use mathlib.Core.List.{[], _∷_};
+ghost use Prim.Native.Nat.{_+_, _*_, _≤_, _<_};
+ghost use lib.ListN.{length};
 ghost use Rattle.model.specs.Reading.{write-code};
 ghost use Rattle.model.specs.Calls.{block-bytes};
 ghost use Rattle.model.specs.Weave.{site, piece, size, watched-call, behind};
 ghost use Rattle.model.specs.Weaving.{Limited};
 ghost use Rattle.policy.specs.Calls.{put-at};
-ghost use Rattle.weaver.specs.Pieces.{Called, size-by, host-size};
+ghost use Rattle.weaver.specs.Pieces.{Called, host-size, HostSizes};
 use applet::encode;
 use model::Instr;
 use model::Moment;
@@ -45,7 +45,7 @@ fn host_size<P: Policy>(p: &P, call: u8) -> u16
 // The same for each call.
 pub fn host_sizes<P: Policy>(p: &P) -> [u16; 64]
     requires { ⌜ Limited (meaning (now p)) (blocks (now p)) ⌝ }
-    ensures { λ r. ⌜ ((k : ℕ) → k < 64 → getD r k 0 ≡ host-size (meaning (now (p .entry))) (blocks (now (p .entry))) k) ⌝ }
+    ensures { λ r. ⌜ HostSizes (meaning (now (p .entry))) (blocks (now (p .entry))) r ⌝ }
 {
     let mut sizes = [0; 64];
     for call in 0..64u8 {
@@ -123,7 +123,7 @@ pub fn put_piece<P: Policy>(
 ) -> usize
     requires call { ⌜ Called c ⌝ }
     requires limited { ⌜ Limited (meaning (now p)) (blocks (now p)) ⌝ }
-    requires sizes { ⌜ ((k : ℕ) → k < 64 → getD (now sizes) k 0 ≡ host-size (meaning (now p)) (blocks (now p)) k) ⌝ }
+    requires sizes { ⌜ HostSizes (meaning (now p)) (blocks (now p)) (now sizes) ⌝ }
     requires index { ⌜ index ≤ 4096 ⌝ }
     requires room { ⌜ at + 4 * size (meaning (now p) .watched) (λ k t. blocks (now p) k t 0) c ≤ length (now area) ⌝ }
     ensures area { λ _. ⌜ now (area .exit) ≡ put-at (now (area .entry)) at (write-code (piece (λ k t. blocks (now (p .entry)) k t 0) index c (watched-call (meaning (now (p .entry)) .watched) c))) ⌝ }
