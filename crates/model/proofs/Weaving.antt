@@ -119,7 +119,7 @@ module _ (A : Automaton) (B : Blocks) where
       ∙ ap (λ b. need b BlockTooLong) (all-below-from 64 (λ k. each-moment (block-fits k))
       (λ k lk. each-moment-from (block-fits k) (λ t. le-leb _ _ (h .blocks k t lk))))
 
-  limited : (u : Unit {0}) → policy-limits A B ≡ Ok u → Limited A B
+  pub limited : (u : Unit {0}) → policy-limits A B ≡ Ok u → Limited A B
   limited u e =
       needed _ _ _ _ e λ w e.
       let b = need-true _ BlockTooLong u e in
