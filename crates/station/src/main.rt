@@ -3,6 +3,7 @@ mod list;
 mod policies;
 mod run;
 mod scripts;
+mod weave;
 mod words;
 
 use applet::Applet;
@@ -43,6 +44,7 @@ fn usage(rt: &LibcRuntime) -> Result<Ended, AnyError> {
         "       station block CALL MOMENT FIRST POLICY [POLICY2]"
     )?;
     eprintln!(rt, "       station watch SCRIPT POLICY [POLICY2]")?;
+    eprintln!(rt, "       station weave PLAIN WOVEN POLICY [POLICY2]")?;
     Ok(Ended::Failed)
 }
 
@@ -161,19 +163,40 @@ fn on_pair<P: Policy + Drop, Q: Policy + Drop>(
     q: Q,
     task: Task,
     script: &str,
+    plain: &[u8],
 ) -> Result<Answer, AnyError> {
     let pair = Pair::new(p, q);
     match limits(&pair) {
-        Ok(()) => policies::carry_out(rt, pair, "pair", task, script),
+        Ok(()) => policies::carry_out(rt, pair, "pair", task, script, plain),
         Err(r) => Ok(Answer::Refused(r)),
     }
 }
 
 // Carries out a task on the policy of one file.
-fn on_one(rt: &LibcRuntime, file: &[u8], task: Task, script: &str) -> Result<Answer, AnyError> {
+fn on_one(
+    rt: &LibcRuntime,
+    file: &[u8],
+    task: Task,
+    script: &str,
+    plain: &[u8],
+) -> Result<Answer, AnyError> {
     match checked(file) {
-        Ok(PolicyKind::Rules) => policies::carry_out(rt, Rules::new(file), "rules", task, script),
-        Ok(PolicyKind::Table) => policies::carry_out(rt, Table::new(file), "table", task, script),
+        Ok(PolicyKind::Rules) => policies::carry_out(
+            rt,
+            Rules::new(file),
+            "rules",
+            task,
+            script,
+            plain,
+        ),
+        Ok(PolicyKind::Table) => policies::carry_out(
+            rt,
+            Table::new(file),
+            "table",
+            task,
+            script,
+            plain,
+        ),
         Err(r) => Ok(Answer::Refused(r)),
     }
 }
@@ -185,6 +208,7 @@ fn on_two(
     two: &[u8],
     task: Task,
     script: &str,
+    plain: &[u8],
 ) -> Result<Answer, AnyError> {
     let first = match checked(one) {
         Ok(kind) => kind,
@@ -201,6 +225,7 @@ fn on_two(
             Rules::new(two),
             task,
             script,
+            plain,
         ),
         (PolicyKind::Rules, PolicyKind::Table) => on_pair(
             rt,
@@ -208,6 +233,7 @@ fn on_two(
             Table::new(two),
             task,
             script,
+            plain,
         ),
         (PolicyKind::Table, PolicyKind::Rules) => on_pair(
             rt,
@@ -215,6 +241,7 @@ fn on_two(
             Rules::new(two),
             task,
             script,
+            plain,
         ),
         (PolicyKind::Table, PolicyKind::Table) => on_pair(
             rt,
@@ -222,6 +249,7 @@ fn on_two(
             Table::new(two),
             task,
             script,
+            plain,
         ),
     }
 }
@@ -231,7 +259,7 @@ fn told(rt: &LibcRuntime, answer: Answer) -> Result<Ended, AnyError> {
     match answer {
         Answer::Done => Ok(Ended::Done),
         Answer::Refused(r) => refused(rt, &r),
-        Answer::BadLine => Ok(Ended::Failed),
+        Answer::Failed => Ok(Ended::Failed),
     }
 }
 
@@ -241,13 +269,14 @@ fn on_files(
     paths: &[String],
     task: Task,
     script: &str,
+    plain: &[u8],
 ) -> Result<Ended, AnyError> {
     match paths {
         [path] => {
             let Some(file) = bytes(rt, path.as_str())? else {
                 return Ok(Ended::Failed);
             };
-            told(rt, on_one(rt, file.as_slice(), task, script)?)
+            told(rt, on_one(rt, file.as_slice(), task, script, plain)?)
         }
         [path, path2] => {
             let Some(one) = bytes(rt, path.as_str())? else {
@@ -258,7 +287,7 @@ fn on_files(
             };
             told(
                 rt,
-                on_two(rt, one.as_slice(), two.as_slice(), task, script)?,
+                on_two(rt, one.as_slice(), two.as_slice(), task, script, plain)?,
             )
         }
         _ => usage(rt),
@@ -277,7 +306,7 @@ fn block(rt: &LibcRuntime, args: &[String]) -> Result<Ended, AnyError> {
         return usage(rt);
     };
     match scripts::moment(moment.as_str()) {
-        Some(moment) => on_files(rt, paths, Task::Block(call, moment, first), ""),
+        Some(moment) => on_files(rt, paths, Task::Block(call, moment, first), "", &[]),
         None => usage(rt),
     }
 }
@@ -290,17 +319,30 @@ fn watch(rt: &LibcRuntime, args: &[String]) -> Result<Ended, AnyError> {
     let Some(text) = script_text(rt, script.as_str())? else {
         return Ok(Ended::Failed);
     };
-    on_files(rt, paths, Task::Watch, text.as_str())
+    on_files(rt, paths, Task::Watch, text.as_str(), &[])
+}
+
+// Weaves: the plain file, the file to write, then the policy files.
+fn weave_plain(rt: &LibcRuntime, args: &[String]) -> Result<Ended, AnyError> {
+    let [plain, woven, paths @ ..] = args else {
+        return usage(rt);
+    };
+    let Some(file) = bytes(rt, plain.as_str())? else {
+        return Ok(Ended::Failed);
+    };
+    on_files(rt, paths, Task::Weave, woven.as_str(), file.as_slice())
 }
 
 // Carries out a command that is about policies.
 fn about_policies(rt: &LibcRuntime, name: &str, args: &[String]) -> Result<Ended, AnyError> {
     if name == "policy" {
-        on_files(rt, args, Task::Report, "")
+        on_files(rt, args, Task::Report, "", &[])
     } else if name == "block" {
         block(rt, args)
     } else if name == "watch" {
         watch(rt, args)
+    } else if name == "weave" {
+        weave_plain(rt, args)
     } else {
         usage(rt)
     }

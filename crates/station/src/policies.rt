@@ -2,28 +2,32 @@
 use crate::list;
 use crate::scripts;
 use crate::scripts::WatchLine;
+use crate::weave;
 use model::Moment;
 use model::Refusal;
 use model::Verdict;
 use policy::Policy;
 use policy::Watch;
 use std::error::AnyError;
+use std::fs;
 
-// What is asked of a policy; a watch also takes a script.
+// What is asked of a policy; a watch also takes a script, and weaving a plain applet and the path of
+// the file to write.
 #[derive(Clone, Copy)]
 pub(crate) enum Task {
     Report,
     Block(u8, Moment, u8),
     Watch,
+    Weave,
 }
 
-// How a task ended: with its report, with a refusal, or at a line that is none of the script's, of
-// which standard error was told.
+// How a task ended: with its report, with a refusal, or with an error, of which standard error was
+// told.
 #[derive(Clone, Copy)]
 pub(crate) enum Answer {
     Done,
     Refused(Refusal),
-    BadLine,
+    Failed,
 }
 
 // The cells of a policy, in square brackets.
@@ -145,10 +149,32 @@ fn watch<P: Policy + Drop>(rt: &LibcRuntime, p: P, text: &str) -> Result<Answer,
                 rt,
                 "station: line {number} of the script is no begin and no event"
             )?;
-            return Ok(Answer::BadLine);
+            return Ok(Answer::Failed);
         };
         line(rt, &mut w, &mut row, width, parsed)?;
     }
+    Ok(Answer::Done)
+}
+
+// Weaves a policy into a plain applet, writes the woven file, and reports; on a refusal no file is
+// written.
+fn weave_file<P: Policy>(
+    rt: &LibcRuntime,
+    p: &P,
+    plain: &[u8],
+    path: &str,
+) -> Result<Answer, AnyError> {
+    let mut area = Vec::from_elem(rt.alloc(), 0u8, 65535)?;
+    let n = match weaver::weave(p, plain, area.as_mut_slice()) {
+        Ok(n) => n,
+        Err(r) => return Ok(Answer::Refused(r)),
+    };
+    area.truncate(n);
+    if let Err(e) = fs::write(rt, path, area.as_slice()) {
+        eprintln!(rt, "station: {path}: {e}")?;
+        return Ok(Answer::Failed);
+    }
+    weave::report(rt, plain, area.as_slice())?;
     Ok(Answer::Done)
 }
 
@@ -159,10 +185,12 @@ pub(crate) fn carry_out<P: Policy + Drop>(
     kind: &str,
     task: Task,
     script: &str,
+    plain: &[u8],
 ) -> Result<Answer, AnyError> {
     match task {
         Task::Report => report(rt, &p, kind),
         Task::Block(call, moment, first) => block(rt, &p, call, moment, first),
         Task::Watch => watch(rt, p, script),
+        Task::Weave => weave_file(rt, &p, plain, script),
     }
 }
