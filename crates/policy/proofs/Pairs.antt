@@ -6,7 +6,7 @@ use mathlib.Core.List.{List, [], _∷_, _++_, append-assoc}
 use Prim.Native.Nat.{ℕ, _+_, _*_, _-_, _≤_, _<_, min}
 use native.Mathlib.Omega.{arith}
 use lib.Dec.{eqb, leb}
-use lib.ListN.{length, take, drop, length-append, length-drop, length-take}
+use lib.ListN.{length, take, drop, length-append, length-drop, length-take, take-append-drop}
 use lib.IntN.{ℤ}
 use borrow.Rule.Slice.PartMut.{putMid, midOf, postOf}
 use Rattle.std.proofs.shelf.Lists.{append-nil, take-all, drop-all, take-at, drop-at, drop-drop, drop-take, take-take, take-rest}
@@ -150,7 +150,38 @@ after-both row x y a w e f h =
     let i : a - 0 ≡ a = omega arith in
     rw (i, take-at x (drop a row) a e, ← append-assoc x y (drop (w - a) (drop a (x ++ drop a row)))) (take-at (x ++ y) _ w (length-append x y ∙ omega arith))
 
-module _ (A C : Automaton) (e : Event) (row : List ℤ) (a w : ℕ) (hk : e .call ≤ 63) (ha : a ≡ A .width) (hw : w ≡ a + C .width) (few : w ≤ 32) (lr : length row ≡ 32) where
+-- what is behind the first's cells, and behind both's
+pub behind-one : (row x : List ℤ) (a : ℕ) → length x ≡ a → drop a (x ++ postOf 0 (a - 0) row) ≡ drop a row
+behind-one row x a e = let i : a - 0 ≡ a = omega arith in rw (i, drop-at x (drop a row) a e) refl
+
+pub rest-two : (row x y : List ℤ) (a w : ℕ) → length x ≡ a → a ≤ w → drop a (putMid a (w - a) (x ++ postOf 0 (a - 0) row) y) ≡ y ++ drop w row
+rest-two row x y a w e h =
+    let z = x ++ postOf 0 (a - 0) row in
+    let i : a - 0 ≡ a = omega arith in
+    let j : a + (w - a) ≡ w = omega arith in
+    let t : take a z ≡ x = ap (λ n. take a (x ++ drop n row)) i ∙ take-at x (drop a row) a e in
+    let d : drop (w - a) (drop a z) ≡ drop w row = ap (drop (w - a)) (behind-one row x a e) ∙ drop-drop (w - a) a row ∙ ap (λ n. drop n row) j in
+    drop-at (take a z) (y ++ drop (w - a) (drop a z)) a (ap length t ∙ e) ∙ ap (λ u. y ++ u) d
+
+pub behind-two : (row x y : List ℤ) (a w : ℕ) → length x ≡ a → length y ≡ w - a → a ≤ w → drop w (putMid a (w - a) (x ++ postOf 0 (a - 0) row) y) ≡ drop w row
+behind-two row x y a w e f h =
+    let z = putMid a (w - a) (x ++ postOf 0 (a - 0) row) y in
+    let j : a + (w - a) ≡ w = omega arith in
+    ap (λ n. drop n z) (sym j) ∙ sym (drop-drop (w - a) a z) ∙ ap (drop (w - a)) (rest-two row x y a w e h) ∙ drop-at y (drop w row) (w - a) f
+
+-- a refusal of the second leaves what is behind the first's cells
+pub same-rest : (row x y : List ℤ) (a w : ℕ) → length x ≡ a → a ≤ w → y ≡ drop a (take w row) → drop a (putMid a (w - a) (x ++ postOf 0 (a - 0) row) y) ≡ drop a row
+same-rest row x y a w e h q =
+    let j : a + (w - a) ≡ w = omega arith in
+    let d : drop a (take w row) ≡ take (w - a) (drop a row) = subst (λ n. drop a (take n row) ≡ take (w - a) (drop a row)) j (drop-take a (w - a) row) in
+    let k : drop w row ≡ drop (w - a) (drop a row) = ap (λ n. drop n row) (sym j) ∙ sym (drop-drop (w - a) a row) in
+    rest-two row x y a w e h ∙ ap₂ _++_ (q ∙ d) k ∙ take-append-drop (w - a) (drop a row)
+
+pub stays-none : (o : Option (List ℤ)) (y z : List ℤ) → is-taken (Ok (verdict-of o)) ≡ false → y ≡ row-behind z o → y ≡ z
+stays-none None y z h e = e
+stays-none (Some c) y z h e = absurd (true≢false h)
+
+module _ (A C : Automaton) (e : Event) (row : List ℤ) (a w : ℕ) (hk : e .call ≤ 63) (ha : a ≡ A .width) (hw : w ≡ a + C .width) (few : w ≤ 32) (lr : w ≤ length row) where
   front : midOf 0 (a - 0) row ≡ take (A .width) (take w row)
   front = ap (λ n. take n row) (omega arith) ∙ sym (take-take (A .width) w row (omega arith))
 

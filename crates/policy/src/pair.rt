@@ -70,20 +70,23 @@ impl<P, Q> Pair<P, Q> {
 }
 
 impl<P: Policy, Q: Policy> Pair<P, Q> {
-    // Both steps on a copy of the cells, of which the first has `a` and both have `w`.
+    // Both steps in the row, of which the first has `a` cells and both have `w`. If one of them refuses
+    // the event, only the first's cells may change.
     fn step_both(
         &self,
         moment: Moment,
         call: u8,
         args: &[i32; 4],
         answer: i32,
-        cells: &mut [i32; 32],
+        cells: &mut [i32],
         a: usize,
         w: usize,
     ) -> Verdict
-        requires { ⌜ (call ≤ 63) × (a ≡ P·Policy .meaning (now self .first) .width) × (w ≡ a + Q·Policy .meaning (now self .second) .width) × (w ≤ 32) ⌝ }
+        requires { ⌜ (call ≤ 63) × (a ≡ P·Policy .meaning (now self .first) .width) × (w ≡ a + Q·Policy .meaning (now self .second) .width) × (w ≤ 32) × (w ≤ length (now cells)) ⌝ }
         ensures answer { λ r. ⌜ r ≡ verdict-of (pair-automaton (P·Policy .meaning (now (self .entry) .first)) (Q·Policy .meaning (now (self .entry) .second)) .step (record { moment = moment; call = call; args = now (args .entry); answer = answer }) (take w (now (cells .entry)))) ⌝ }
         ensures cells { λ r. ⌜ (r ≡ Verdict.Taken → Some (take w (now (cells .exit))) ≡ pair-automaton (P·Policy .meaning (now (self .entry) .first)) (Q·Policy .meaning (now (self .entry) .second)) .step (record { moment = moment; call = call; args = now (args .entry); answer = answer }) (take w (now (cells .entry)))) ⌝ }
+        ensures past { λ r. ⌜ (r ≡ Verdict.Taken → drop w (now (cells .exit)) ≡ drop w (now (cells .entry))) ⌝ }
+        ensures kept { λ r. ⌜ (r ≡ Verdict.Refused → drop a (now (cells .exit)) ≡ drop a (now (cells .entry))) ⌝ }
     {
         if !taken(
             self.first
@@ -138,13 +141,13 @@ pub impl<P: Policy, Q: Policy> Policy for Pair<P, Q> as PairPolicy {
         may_step(call, w, row.len())?;
         let a = usize::from(self.first.width());
         let w = usize::from(w);
-        let mut cells = copied(row, w);
-        match self.step_both(moment, call, args, answer, &mut cells, a, w) {
-            Verdict::Taken => {
-                put_back(row, &cells, w);
-                Ok(Verdict::Taken)
+        let cells = copied(row, a);
+        match self.step_both(moment, call, args, answer, row, a, w) {
+            Verdict::Taken => Ok(Verdict::Taken),
+            Verdict::Refused => {
+                put_back(row, &cells, a);
+                Ok(Verdict::Refused)
             }
-            Verdict::Refused => Ok(Verdict::Refused),
         }
     }
 

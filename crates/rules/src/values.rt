@@ -1,6 +1,6 @@
 // The values of expressions.
 ghost use mathlib.Core.Path.{_≡_};
-ghost use mathlib.Core.Bool.{true};
+ghost use mathlib.Core.Bool.{true, cond};
 ghost use mathlib.Core.List.{List, [], _∷_, _++_};
 ghost use Prim.Native.Nat.{ℕ, _≤_};
 ghost use lib.ListN.{length, getD};
@@ -9,7 +9,8 @@ ghost use mir.Syntax.{w32};
 ghost use Rattle.std.specs.shelf.Signed.{wrapped};
 ghost use Rattle.model.specs.Policy.{operate as operated, eqZ};
 ghost use Rattle.model.specs.Rules.{Expr, value as valued, expr-bytes, Valid-expr};
-ghost use Rattle.rules.specs.Tokens.{meant, room};
+ghost use Rattle.std.specs.declared.option.Option.the-variants.{Some, None};
+ghost use Rattle.rules.specs.Tokens.{meant, room, after};
 ghost use Rattle.rules.specs.Values.{stacked};
 use crate::tokens::Token;
 use model::Operator;
@@ -56,18 +57,43 @@ fn number_at(xs: &[i32], i: u8) -> i32
     if at < xs.len() { xs[at] } else { 0 }
 }
 
-// What holds a token's value: behind so many values on the stack, with the arguments and the cells.
-fn apply(t: Token, stack: &mut [i32; 8], d: u8, args: &[i32; 5], cells: &[i32])
-    requires room { ⌜ room d (meant t) ≡ true ⌝ }
-    requires few { ⌜ d ≤ 8 ⌝ }
-    ensures { λ _. ⌜ now (stack .exit) ≡ stacked (now (args .entry)) (now (cells .entry)) d (meant t) (now (stack .entry)) ⌝ }
+// What holds a token's value, behind so many values on the stack, with the arguments and the cells;
+// how many values are held then. None if there are too few for an operator, or no room for one more.
+fn push(t: Token, stack: &mut [i32; 8], d: u8, args: &[i32; 5], cells: &[i32]) -> Option<u8>
+    requires { ⌜ d ≤ 8 ⌝ }
+    ensures held { λ r. ⌜ r ≡ cond (room d (meant t)) (Some (after d (meant t))) None ⌝ }
+    ensures stack { λ _. ⌜ (room d (meant t) ≡ true → now (stack .exit) ≡ stacked (now (args .entry)) (now (cells .entry)) d (meant t) (now (stack .entry))) ⌝ }
 {
     let at = usize::from(d);
     match t {
-        Token::Constant(z) => stack[at] = i32::from(z),
-        Token::Cell(i) => stack[at] = number_at(cells, i),
-        Token::Argument(i) => stack[at] = number_at(args, i),
-        Token::Operator(o) => stack[at - 2] = operate(o, stack[at - 2], stack[at - 1]),
+        Token::Operator(o) => {
+            if d < 2 {
+                return None;
+            }
+            stack[at - 2] = operate(o, stack[at - 2], stack[at - 1]);
+            Some(d - 1)
+        }
+        Token::Constant(z) => {
+            if d >= 8 {
+                return None;
+            }
+            stack[at] = i32::from(z);
+            Some(d + 1)
+        }
+        Token::Cell(i) => {
+            if d >= 8 {
+                return None;
+            }
+            stack[at] = number_at(cells, i);
+            Some(d + 1)
+        }
+        Token::Argument(i) => {
+            if d >= 8 {
+                return None;
+            }
+            stack[at] = number_at(args, i);
+            Some(d + 1)
+        }
     }
 }
 
@@ -82,10 +108,9 @@ pub(crate) fn evaluate(c: &[u8], width: u8, readable: u8, args: &[i32; 5], cells
         let Some(t) = Token::at(c, i, width, readable) else {
             return 0;
         };
-        let Some(e) = t.held(d) else {
+        let Some(e) = push(t, &mut stack, d, args, cells) else {
             return 0;
         };
-        apply(t, &mut stack, d, args, cells);
         d = e;
         i += 3;
     }

@@ -30,14 +30,15 @@ returns-in-rest c ts e w =
 pub loop-i-again : need.loop-i-again
 loop-i-again c =
     let t = meant (c .in-Some .t) in
-    let g = given-by (room (c .loop-i .d) t) (after (c .loop-i .d) t) (c .in-Some-held .e) (c .in-Some-held .ensures tt) in
+    let g = given-by (room (c .loop-i .d) t) (after (c .loop-i .d) t) (c .in-Some-push .e) (c .in-Some-push .ensures tt .held) in
+    let m = c .push .ensures .stack in
     let f = few-more (c .args .args .now) (c .args .cells .now) (c .loop-i .d) t (c .loop-i .stack) (c .loop-i .inv .1) (c .loop-i .inv .2) (g .0) in (
       three-off (c .args .width) (c .args .readable) (c .args .c .now) (c .loop-i .i) t (c .loop-i .inv .0) (sym (c .in-Some .ensures tt)),
       rw (g .1) (f .0),
-      ap length (c .apply .ensures) ∙ f .1,
+      ap length (m (g .0)) ∙ f .1,
       λ ts e w.
           subst₂ (Left (c .args .width) (c .args .readable) (c .args .args .now) (c .args .cells .now) (c .args .c .now) (value (c .args .args .now) (c .args .cells .now) ts) (c .loop-i .i + 3))
-          (sym (g .1)) (sym (c .apply .ensures))
+          (sym (g .1)) (sym (m (g .0)))
           (left-more (c .args .width) (c .args .readable) (c .args .args .now) (c .args .cells .now) (c .args .c .now) _ (c .loop-i .i) (c .loop-i .d) (c .loop-i .stack)
           (c .loop-i .inv .3 ts e w) t (sym (c .in-Some .ensures tt)) (c .loop-i .inv .2) (c .loop-i .inv .1)),
     )

@@ -1,8 +1,8 @@
-use mathlib.Core.Path.{_≡_, refl, sym, ap, _∙_}
+use mathlib.Core.Path.{_≡_, refl, sym, ap, ap₂, _∙_}
 use mathlib.Core.List.{_++_}
 use Prim.Native.Nat.{_+_}
 use native.Mathlib.Omega.{arith}
-use lib.ListN.{take, drop}
+use lib.ListN.{take, drop, take-append-drop}
 use mir.Syntax.{w32}
 use mir.Val.{toZ, ofZ}
 use Rattle.std.proofs.shelf.Signed.{toZ-ofZ}
@@ -29,14 +29,15 @@ returns-in-Taken g c =
     let z : toZ w32 (ofZ w32 (c .args .answer)) ≡ c .args .answer = toZ-ofZ w32 (c .args .answer) (c .fits .answer) in
     let e : Event = record { moment = c .args .moment; call = c .args .call; args = c .args .args .now; answer = c .args .answer } in
     let row = c .args .row .now in
+    let new = c .step-both .last .cells in
     let h = step-allowed A e row (rw (c .width-w .ensures) at (c .in-Continue-may-step .ensures tt)) in
     let w : c .from-w .result ≡ A .width = c .from-w .ensures ∙ c .width-w .ensures ∙ h .roomy .told in
-    let d = take (A .width) (c .step-both .last .cells) in
+    let d = take (A .width) new in
     let n = c .from-w .result in
-    let k : Some (take n (c .step-both .last .cells)) ≡ A .step e (take n (c .copied-cells .result)) = rw z at (c .in-Taken .ensures tt .cells refl) in
-    let q : A .step e (take (A .width) row) ≡ Some d = ap (λ m. A .step e (take m row)) (sym w) ∙ ap (A .step e) (sym (c .copied-cells .ensures)) ∙ sym k ∙
-    ap (λ m. Some (take m (c .step-both .last .cells))) w in
-    record { answer = h .answer (Some d) q; row = c .put-back .ensures ∙ ap (λ n. take n (c .step-both .last .cells) ++ drop n row) w ∙ h .after (Some d) q }
+    let k : Some (take n new) ≡ A .step e (take n row) = rw z at (c .in-Taken .ensures tt .cells refl) in
+    let q : A .step e (take (A .width) row) ≡ Some d = ap (λ m. A .step e (take m row)) (sym w) ∙ sym k ∙ ap (λ m. Some (take m new)) w in
+    let r : new ≡ take n new ++ drop n row = sym (take-append-drop n new) ∙ ap (λ y. take n new ++ y) (c .in-Taken .ensures tt .past refl) in
+    record { answer = h .answer (Some d) q; row = r ∙ ap (λ n. take n new ++ drop n row) w ∙ h .after (Some d) q }
 
 pub returns-in-Refused : need.returns-in-Refused
 returns-in-Refused g c =
@@ -47,6 +48,8 @@ returns-in-Refused g c =
     let h = step-allowed A e row (rw (c .width-w .ensures) at (c .in-Continue-may-step .ensures tt)) in
     let w : c .from-w .result ≡ A .width = c .from-w .ensures ∙ c .width-w .ensures ∙ h .roomy .told in
     let n = c .from-w .result in
-    let k : A .step e (take n (c .copied-cells .result)) ≡ None = refused-is _ (rw z at (c .in-Refused .ensures tt .answer)) in
-    let q : A .step e (take (A .width) row) ≡ None = ap (λ m. A .step e (take m row)) (sym w) ∙ ap (A .step e) (sym (c .copied-cells .ensures)) ∙ k in
-    record { answer = h .answer None q; row = h .after None q }
+    let a = c .from-a .result in
+    let k : A .step e (take n row) ≡ None = refused-is _ (rw z at (c .in-Refused .ensures tt .answer)) in
+    let q : A .step e (take (A .width) row) ≡ None = ap (λ m. A .step e (take m row)) (sym w) ∙ k in
+    let r = c .put-back .ensures ∙ ap₂ _++_ (c .copied-cells .ensures) (c .in-Refused .ensures tt .kept refl) ∙ take-append-drop a row in
+    record { answer = h .answer None q; row = r ∙ h .after None q }
