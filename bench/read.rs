@@ -145,9 +145,9 @@ fn compare_damaged(name: &str, good: &[u8], rounds: usize) -> [usize; 5] {
     counts
 }
 
-/// Seconds of one call: the least of 21 rounds of some milliseconds each, the two in turn.
+/// Seconds of one call: the least of 1,000 rounds of less than a millisecond each, the two in turn.
 fn best(file: &[u8]) -> (f64, f64) {
-    let turns = 20_000_000 / file.len();
+    let turns = 500_000 / file.len();
     let once = |read: fn(&[u8]) -> (u32, u64)| {
         let t = Instant::now();
         for _ in 0..turns {
@@ -156,7 +156,7 @@ fn best(file: &[u8]) -> (f64, f64) {
         t.elapsed().as_secs_f64() / turns as f64
     };
     let mut low = (f64::INFINITY, f64::INFINITY);
-    for _ in 0..21 {
+    for _ in 0..1000 {
         low.0 = low.0.min(once(proved));
         low.1 = low.1.min(once(plain));
     }
@@ -170,6 +170,7 @@ fn main() {
             cases.push((format!("{kind} {label}"), file(bytes, methods, woven)));
         }
     }
+    cases.push(("32 methods".to_string(), file(2048, 32, false)));
     let mut counts = [0; 5];
     for (name, f) in &cases {
         assert_eq!((proved(f), plain(f)), ((0, 0), (0, 0)), "{name}");

@@ -2,7 +2,9 @@
 use mathlib.Core.List.{List, [], _∷_, map}
 use mathlib.Core.Path.{_≡_}
 use Prim.Native.Nat.{ℕ, zero, suc, _+_, _*_, _<_}
-use lib.ListN.{length, take, drop}
+use mathlib.Core.Bool.{cond}
+use lib.Dec.{leb}
+use lib.ListN.{length, take, drop, getD}
 use denote.Ref.{now, RefT}
 use Rattle.std.specs.declared.option.Option.{Option}
 use Rattle.std.specs.declared.option.Option.the-variants.{Some, None}
@@ -77,3 +79,8 @@ Placed a = (m : ℕ) → m < length (meant a .methods) → nth (places-of a) m �
 pub record Kept (f : List ℕ) (a : machine.Applet) : Type 0 where
   pub valid : Valid a
   pub written : write-applet a ≡ f
+
+-- the four bytes at index i of a method's code, if there is one and it is so long
+abbrev pub quad-in : Option (List ℕ) → ℕ → Option (List ℕ)
+quad-in None i = None
+quad-in (Some c) i = cond (leb (4 * i + 4) (length c)) (Some (getD c (4 * i) 0 ∷ getD c (4 * i + 1) 0 ∷ getD c (4 * i + 2) 0 ∷ getD c (4 * i + 3) 0 ∷ [])) None

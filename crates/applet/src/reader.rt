@@ -4,7 +4,7 @@ ghost use Prim.Native.Nat.{ℕ, _+_, _*_, _≤_, _<_, _/_, _%_};
 ghost use lib.Dec.{ltb};
 ghost use lib.ListN.{length, take, drop, getD};
 ghost use Rattle.std.specs.Vec.{made};
-ghost use Rattle.std.specs.Options.{mapped};
+ghost use Rattle.std.specs.Options.{Cases as BySome, mapped};
 ghost use Rattle.std.specs.declared.option.Option.the-variants.{Some};
 ghost use Rattle.applet.specs.Table.{row};
 ghost use Rattle.applet.specs.Glances.{Seen, blind};
@@ -12,7 +12,7 @@ ghost use Rattle.std.specs.declared.result.Result.the-variants.{Ok};
 ghost use Rattle.model.specs.Words.{quads, quad-at, decode, signed-of};
 ghost use Rattle.model.specs.Reading.{landed, read-applet};
 ghost use Rattle.model.specs.Fields.{standing, behind, every, contents-at};
-ghost use Rattle.applet.specs.Applets.{found, found-in, meant, read-seen, Placed, Kept, nth, places-of, shown};
+ghost use Rattle.applet.specs.Applets.{quad-in, found, found-in, meant, read-seen, Placed, Kept, nth, places-of, shown};
 ghost use Rattle.applet.specs.Stages.{staged, head-of, entries-of, cells-of, method-of, due-at, places-from, places-in, row-judged, passed, judged, codes-judged};
 use crate::glance::Glance;
 use crate::glance::glances;
@@ -270,36 +270,22 @@ fn signed_at(bytes: &[u8], at: usize) -> i32
     i32::from_be_bytes([bytes[at], bytes[at + 1], bytes[at + 2], bytes[at + 3]])
 }
 
-// How many of the places are in use.
-fn count_of(places: &[usize; 32], methods: u8) -> u8
-    ensures { λ r. ⌜ r ≡ length (take methods (now (places .entry))) ⌝ }
+// The four bytes at an index of the contents of the field at a place, if they are so long.
+fn quad_of(file: &[u8], p: usize, index: u32) -> Option<[u8; 4]>
+    ensures value { λ r. ⌜ r ≡ quad-in (Some (contents-at (now (file .entry)) p)) index ⌝ }
+    ensures low { λ r. ⌜ BySome r (Unit {0}) (λ _. index < 16384) ⌝ }
 {
-    methods.min(32)
-}
-
-// One of the places in use.
-fn nth_of(places: &[usize; 32], methods: u8, m: usize) -> Option<usize>
-    ensures { λ r. ⌜ r ≡ nth (take methods (now (places .entry))) m ⌝ }
-{
-    if m < methods.min(32) as usize {
-        Some(places[m])
-    } else {
-        None
+    let at = 4 * index as usize;
+    let size = file.len();
+    if p >= size || size - p < at + 7 {
+        return None;
     }
-}
-
-impl Layout {
-    fn count(&self) -> u8
-        ensures { λ r. ⌜ r ≡ length (found (now (self .entry)) .places) ⌝ }
-    {
-        count_of(&self.places, self.methods)
+    let n = file[p + 1] as usize * 256 + file[p + 2] as usize;
+    if n < at + 4 {
+        return None;
     }
-
-    fn nth(&self, m: usize) -> Option<usize>
-        ensures { λ r. ⌜ r ≡ nth (found (now (self .entry)) .places) m ⌝ }
-    {
-        nth_of(&self.places, self.methods, m)
-    }
+    let q = p + 3 + at;
+    Some([file[q], file[q + 1], file[q + 2], file[q + 3]])
 }
 
 impl<'a> Applet<'a> {
@@ -359,24 +345,38 @@ impl<'a> Applet<'a> {
     pub fn methods(&self) -> u8
         ensures { λ r. ⌜ r ≡ length (meant (now (self .entry)) .methods) ⌝ }
     {
-        let layout = self.layout;
-        layout.count()
+        self.layout.methods.min(32)
     }
 
     // The place of a method, if there is one.
     pub fn place(&self, m: usize) -> Option<usize>
         ensures { λ r. ⌜ r ≡ nth (places-of (now (self .entry))) m ⌝ }
     {
-        let layout = self.layout;
-        layout.nth(m)
+        if m < self.layout.methods.min(32) as usize {
+            Some(self.layout.places[m])
+        } else {
+            None
+        }
     }
 
     // The code of a method, as that part of the file.
     pub fn code(&self, m: usize) -> Option<&'a [u8]>
-        ensures { λ r. ⌜ shown r ≡ mapped (contents-at (now (now (self .entry) .file))) (nth (places-of (now (self .entry))) m) ⌝ }
+        ensures size { λ r. ⌜ BySome r (Unit {0}) (λ c. length (now c) ≤ 65535) ⌝ }
+        ensures value { λ r. ⌜ shown r ≡ mapped (contents-at (now (now (self .entry) .file))) (nth (places-of (now (self .entry))) m) ⌝ }
     {
         match self.place(m) {
             Some(p) => Some(contents_of(self.file, p)),
+            None => None,
+        }
+    }
+
+    // The four bytes at an index of a method's code, if it is so long.
+    pub fn quad(&self, m: usize, index: u32) -> Option<[u8; 4]>
+        ensures value { λ r. ⌜ r ≡ quad-in (mapped (contents-at (now (now (self .entry) .file))) (nth (places-of (now (self .entry))) m)) index ⌝ }
+        ensures low { λ r. ⌜ BySome r (Unit {0}) (λ _. index < 16384) ⌝ }
+    {
+        match self.place(m) {
+            Some(p) => quad_of(self.file, p, index),
             None => None,
         }
     }

@@ -35,7 +35,7 @@ pub const A: [u8; 27] = [
 ];
 
 // A refusal's number and place, zeros where the file reads.
-pub fn answer(file: &[u8]) -> (u8, usize) {
+pub(crate) fn answer(file: &[u8]) -> (u8, usize) {
     match Applet::read(file) {
         Ok(_) => (0, 0),
         Err(r) => (r.number(), r.place()),
@@ -43,7 +43,7 @@ pub fn answer(file: &[u8]) -> (u8, usize) {
 }
 
 // A with some of its bytes changed.
-pub fn changed(changes: &[(usize, u8)]) -> [u8; 27] {
+pub(crate) fn changed(changes: &[(usize, u8)]) -> [u8; 27] {
     let mut file = A;
     for c in changes {
         if c.0 < 27 {
@@ -54,13 +54,13 @@ pub fn changed(changes: &[(usize, u8)]) -> [u8; 27] {
 }
 
 // A with another instruction at index 0.
-pub fn led_by(op: u8, x: u8, y: u16) -> [u8; 27] {
+pub(crate) fn led_by(op: u8, x: u8, y: u16) -> [u8; 27] {
     let [high, low] = y.to_be_bytes();
     changed(&[(15, op), (16, x), (17, high), (18, low)])
 }
 
 // A with its method cut to one instruction.
-pub fn only(op: u8, x: u8, y: u16) -> [u8; 19] {
+pub(crate) fn only(op: u8, x: u8, y: u16) -> [u8; 19] {
     let [high, low] = y.to_be_bytes();
     [
         1,
@@ -94,7 +94,7 @@ fn begin(file: &mut Vec<u8>, tag: u8, length: usize) -> Result<(), AllocError> {
 }
 
 // One method of so many ENDs.
-pub fn method(file: &mut Vec<u8>, size: usize) -> Result<(), AllocError> {
+pub(crate) fn method(file: &mut Vec<u8>, size: usize) -> Result<(), AllocError> {
     begin(file, 4, size.saturating_mul(4))?;
     for _ in 0..size {
         file.extend_from_slice(&[14, 0, 0, 0])?;
@@ -104,7 +104,7 @@ pub fn method(file: &mut Vec<u8>, size: usize) -> Result<(), AllocError> {
 
 // A file up to its methods: so many methods are announced, so many threads start in method 0, and
 // so many cells start at 0.
-pub fn front(
+pub(crate) fn front(
     heap: Global,
     methods: u8,
     threads: usize,
@@ -123,7 +123,7 @@ pub fn front(
 }
 
 // A file whose methods are one END each.
-pub fn small(
+pub(crate) fn small(
     heap: Global,
     methods: u8,
     threads: usize,
@@ -137,7 +137,7 @@ pub fn small(
 }
 
 // A file of one method of so many ENDs.
-pub fn sized(heap: Global, size: usize) -> Result<Vec<u8>, AllocError> {
+pub(crate) fn sized(heap: Global, size: usize) -> Result<Vec<u8>, AllocError> {
     let mut file = front(heap, 1, 1, 0)?;
     method(&mut file, size)?;
     Ok(file)
@@ -145,7 +145,7 @@ pub fn sized(heap: Global, size: usize) -> Result<Vec<u8>, AllocError> {
 
 // A file of 65,535 bytes: 5 for the head, 7 for four threads, 3 for no cells, and four methods of
 // 3 bytes and their instructions, 16,377 in all.
-pub fn longest(heap: Global) -> Result<Vec<u8>, AllocError> {
+pub(crate) fn longest(heap: Global) -> Result<Vec<u8>, AllocError> {
     let mut file = front(heap, 4, 4, 0)?;
     for size in [4096, 4096, 4096, 4089] {
         method(&mut file, size)?;

@@ -89,36 +89,37 @@ fn last_instructions() -> Result<(), Fail> {
 }
 
 // Every opcode with its operands at their limits, in an applet of 32 methods.
+const INSTRUCTIONS: [(Instr, [u8; 4]); 25] = [
+    (Instr::Own(Own::Set(7, -32768)), [0x01, 7, 0x80, 0]),
+    (Instr::Own(Own::Set(0, 32767)), [0x01, 0, 0x7f, 255]),
+    (Instr::Own(Own::Mov(7, 6)), [0x02, 7, 0, 6]),
+    (Instr::Own(Own::Add(6, 7)), [0x03, 6, 0, 7]),
+    (Instr::Own(Own::Sub(7, 0)), [0x04, 7, 0, 0]),
+    (Instr::Own(Own::Lt(0, 7)), [0x05, 0, 0, 7]),
+    (Instr::Own(Own::Eq(7, 1)), [0x06, 7, 0, 1]),
+    (Instr::Own(Own::Get(7, 63)), [0x07, 7, 0, 63]),
+    (Instr::Own(Own::Put(1, 63)), [0x08, 1, 0, 63]),
+    (Instr::Own(Own::Jump(65535)), [0x09, 0, 255, 255]),
+    (Instr::Own(Own::Brz(7, 258)), [0x0a, 7, 1, 2]),
+    (Instr::Own(Own::Call(31)), [0x0b, 0, 0, 31]),
+    (Instr::Own(Own::Ret), [0x0c, 0, 0, 0]),
+    (Instr::Own(Own::Host(63, 4095)), [0x0d, 63, 15, 255]),
+    (Instr::Own(Own::End), [0x0e, 0, 0, 0]),
+    (Instr::Lock(63), [0x20, 63, 0, 0]),
+    (Instr::Unlock, [0x21, 0, 0, 0]),
+    (Instr::Test(Test::Skip(65535)), [0x22, 0, 255, 255]),
+    (Instr::Test(Test::Skz(7, 256)), [0x23, 7, 1, 0]),
+    (Instr::Test(Test::Viol), [0x24, 0, 0, 0]),
+    (Instr::Test(Test::Mset(7, -1)), [0x25, 7, 255, 255]),
+    (Instr::Test(Test::Mcell(7, 31)), [0x26, 7, 0, 31]),
+    (Instr::Test(Test::Marg(7, 4)), [0x27, 7, 0, 4]),
+    (Instr::Test(Test::Store(6, 31)), [0x28, 6, 0, 31]),
+    (Instr::Test(Test::Op(6, Operator::Either)), [0x29, 6, 0, 5]),
+];
+
 #[test]
 fn four_bytes() -> Result<(), Fail> {
-    let cases: [(Instr, [u8; 4]); 25] = [
-        (Instr::Own(Own::Set(7, -32768)), [0x01, 7, 0x80, 0]),
-        (Instr::Own(Own::Set(0, 32767)), [0x01, 0, 0x7f, 255]),
-        (Instr::Own(Own::Mov(7, 6)), [0x02, 7, 0, 6]),
-        (Instr::Own(Own::Add(6, 7)), [0x03, 6, 0, 7]),
-        (Instr::Own(Own::Sub(7, 0)), [0x04, 7, 0, 0]),
-        (Instr::Own(Own::Lt(0, 7)), [0x05, 0, 0, 7]),
-        (Instr::Own(Own::Eq(7, 1)), [0x06, 7, 0, 1]),
-        (Instr::Own(Own::Get(7, 63)), [0x07, 7, 0, 63]),
-        (Instr::Own(Own::Put(1, 63)), [0x08, 1, 0, 63]),
-        (Instr::Own(Own::Jump(65535)), [0x09, 0, 255, 255]),
-        (Instr::Own(Own::Brz(7, 258)), [0x0a, 7, 1, 2]),
-        (Instr::Own(Own::Call(31)), [0x0b, 0, 0, 31]),
-        (Instr::Own(Own::Ret), [0x0c, 0, 0, 0]),
-        (Instr::Own(Own::Host(63, 4095)), [0x0d, 63, 15, 255]),
-        (Instr::Own(Own::End), [0x0e, 0, 0, 0]),
-        (Instr::Lock(63), [0x20, 63, 0, 0]),
-        (Instr::Unlock, [0x21, 0, 0, 0]),
-        (Instr::Test(Test::Skip(65535)), [0x22, 0, 255, 255]),
-        (Instr::Test(Test::Skz(7, 256)), [0x23, 7, 1, 0]),
-        (Instr::Test(Test::Viol), [0x24, 0, 0, 0]),
-        (Instr::Test(Test::Mset(7, -1)), [0x25, 7, 255, 255]),
-        (Instr::Test(Test::Mcell(7, 31)), [0x26, 7, 0, 31]),
-        (Instr::Test(Test::Marg(7, 4)), [0x27, 7, 0, 4]),
-        (Instr::Test(Test::Store(6, 31)), [0x28, 6, 0, 31]),
-        (Instr::Test(Test::Op(6, Operator::Either)), [0x29, 6, 0, 5]),
-    ];
-    for (i, bytes) in cases {
+    for (i, bytes) in INSTRUCTIONS {
         check_eq(encode(i), bytes)?;
         check_eq(decode(bytes, 32), Some(i))?;
         check_eq(Word::of(i).op, bytes[0])?;

@@ -54,155 +54,166 @@ fn truncations() -> Result<(), Fail> {
 }
 
 // Changed bytes of A, and the refusal.
+const CHANGES: [(&'static [(usize, u8)], u8, usize); 38] = [
+    // fields: another tag, a length past the end, a method missing
+    (&[(0, 2)], 10, 0),
+    (&[(0, 65)], 10, 0),
+    (&[(5, 3)], 10, 5),
+    (&[(9, 4)], 10, 9),
+    (&[(12, 3)], 10, 12),
+    (&[(12, 0)], 10, 12),
+    (&[(14, 13)], 10, 12),
+    (&[(1, 1)], 10, 0),
+    (&[(4, 2)], 10, 27),
+    // sizes and counts: format, methods, lengths, threads
+    (&[(3, 2)], 11, 0),
+    (&[(3, 0)], 11, 0),
+    (&[(4, 0)], 11, 0),
+    (&[(4, 33)], 11, 0),
+    (&[(2, 3)], 11, 0),
+    (&[(2, 1)], 11, 0),
+    (&[(7, 0)], 11, 5),
+    (&[(8, 1)], 11, 5),
+    (&[(8, 255)], 11, 5),
+    (&[(11, 3)], 11, 9),
+    (&[(14, 11)], 11, 12),
+    (&[(14, 0)], 11, 12),
+    // the earlier field first, and all fields before the first instruction
+    (&[(8, 1), (14, 13)], 11, 5),
+    (&[(3, 2), (5, 3)], 11, 0),
+    (&[(15, 15), (14, 8)], 10, 23),
+    (&[(15, 15), (4, 2)], 10, 27),
+    // opcodes and operands
+    (&[(19, 15)], 12, 19),
+    (&[(16, 8)], 12, 15),
+    (&[(20, 64)], 12, 19),
+    (&[(26, 1)], 12, 23),
+    (&[(24, 1)], 12, 23),
+    (&[(19, 11), (20, 0), (22, 1)], 12, 19),
+    // landings
+    (&[(22, 3)], 13, 19),
+    (&[(21, 255)], 13, 19),
+    (&[(19, 34), (20, 0), (22, 1)], 13, 19),
+    (&[(23, 33)], 13, 23),
+    // 12 before 13 at one instruction, the earlier instruction first
+    (&[(23, 1), (24, 8)], 12, 23),
+    (&[(20, 64), (22, 3)], 12, 19),
+    (&[(22, 3), (23, 15)], 13, 19),
+];
+
 #[test]
 fn changes() -> Result<(), Fail> {
-    let cases: [(&[(usize, u8)], u8, usize); 38] = [
-        // fields: another tag, a length past the end, a method missing
-        (&[(0, 2)], 10, 0),
-        (&[(0, 65)], 10, 0),
-        (&[(5, 3)], 10, 5),
-        (&[(9, 4)], 10, 9),
-        (&[(12, 3)], 10, 12),
-        (&[(12, 0)], 10, 12),
-        (&[(14, 13)], 10, 12),
-        (&[(1, 1)], 10, 0),
-        (&[(4, 2)], 10, 27),
-        // sizes and counts: format, methods, lengths, threads
-        (&[(3, 2)], 11, 0),
-        (&[(3, 0)], 11, 0),
-        (&[(4, 0)], 11, 0),
-        (&[(4, 33)], 11, 0),
-        (&[(2, 3)], 11, 0),
-        (&[(2, 1)], 11, 0),
-        (&[(7, 0)], 11, 5),
-        (&[(8, 1)], 11, 5),
-        (&[(8, 255)], 11, 5),
-        (&[(11, 3)], 11, 9),
-        (&[(14, 11)], 11, 12),
-        (&[(14, 0)], 11, 12),
-        // the earlier field first, and all fields before the first instruction
-        (&[(8, 1), (14, 13)], 11, 5),
-        (&[(3, 2), (5, 3)], 11, 0),
-        (&[(15, 15), (14, 8)], 10, 23),
-        (&[(15, 15), (4, 2)], 10, 27),
-        // opcodes and operands
-        (&[(19, 15)], 12, 19),
-        (&[(16, 8)], 12, 15),
-        (&[(20, 64)], 12, 19),
-        (&[(26, 1)], 12, 23),
-        (&[(24, 1)], 12, 23),
-        (&[(19, 11), (20, 0), (22, 1)], 12, 19),
-        // landings
-        (&[(22, 3)], 13, 19),
-        (&[(21, 255)], 13, 19),
-        (&[(19, 34), (20, 0), (22, 1)], 13, 19),
-        (&[(23, 33)], 13, 23),
-        // 12 before 13 at one instruction, the earlier instruction first
-        (&[(23, 1), (24, 8)], 12, 23),
-        (&[(20, 64), (22, 3)], 12, 19),
-        (&[(22, 3), (23, 15)], 13, 19),
-    ];
-    for (bytes, number, place) in cases {
+    for (bytes, number, place) in CHANGES {
         check_eq(answer(&changed(bytes)), (number, place))?;
     }
     check_eq(answer(&changed(&[(19, 34), (20, 0), (22, 0)])), (0, 0))?;
     check_eq(answer(&changed(&[(19, 11), (20, 0), (22, 0)])), (0, 0))
 }
 
-// A with bytes left over, with a field left out, and with a broken field of cells.
+// Other files, and the refusal: none at all, a byte and a field left over, the cells left out, cells
+// of five bytes, the threads behind the cells.
+const OTHERS: [(&'static [u8], u8, usize); 6] = [
+    (&[], 10, 0),
+    (
+        &[1, 0, 2, 1, 1, 2, 0, 1, 0, 3, 0, 0, 4, 0, 4, 14, 0, 0, 0, 4],
+        10,
+        19,
+    ),
+    (
+        &[
+            1,
+            0,
+            2,
+            1,
+            1,
+            2,
+            0,
+            1,
+            0,
+            3,
+            0,
+            0,
+            4,
+            0,
+            4,
+            14,
+            0,
+            0,
+            0,
+            4,
+            0,
+            4,
+            14,
+            0,
+            0,
+            0,
+        ],
+        10,
+        19,
+    ),
+    (&[1, 0, 2, 1, 1, 2, 0, 1, 0, 4, 0, 4, 14, 0, 0, 0], 10, 9),
+    (
+        &[
+            1,
+            0,
+            2,
+            1,
+            1,
+            2,
+            0,
+            1,
+            0,
+            3,
+            0,
+            5,
+            0,
+            0,
+            0,
+            0,
+            0,
+            4,
+            0,
+            4,
+            14,
+            0,
+            0,
+            0,
+        ],
+        11,
+        9,
+    ),
+    (
+        &[1, 0, 2, 1, 1, 3, 0, 0, 2, 0, 1, 0, 4, 0, 4, 14, 0, 0, 0],
+        10,
+        5,
+    ),
+];
+
 #[test]
-fn other_sizes() -> Result<(), Fail> {
-    let [a0, a1, a2, a3, a4, a5, a6, a7, a8, ..] = A;
-    check_eq(
-        answer(&[1, 0, 2, 1, 1, 2, 0, 1, 0, 3, 0, 0, 4, 0, 4, 14, 0, 0, 0, 4]),
-        (10, 19),
-    )?;
-    check_eq(
-        answer(
-            &[
-                1,
-                0,
-                2,
-                1,
-                1,
-                2,
-                0,
-                1,
-                0,
-                3,
-                0,
-                0,
-                4,
-                0,
-                4,
-                14,
-                0,
-                0,
-                0,
-                4,
-                0,
-                4,
-                14,
-                0,
-                0,
-                0,
-            ],
-        ),
-        (10, 19),
-    )?;
-    check_eq(
-        answer(&[a0, a1, a2, a3, a4, a5, a6, a7, a8, 4, 0, 4, 14, 0, 0, 0]),
-        (10, 9),
-    )?;
-    check_eq(
-        answer(
-            &[
-                a0,
-                a1,
-                a2,
-                a3,
-                a4,
-                a5,
-                a6,
-                a7,
-                a8,
-                3,
-                0,
-                5,
-                0,
-                0,
-                0,
-                0,
-                0,
-                4,
-                0,
-                4,
-                14,
-                0,
-                0,
-                0,
-            ],
-        ),
-        (11, 9),
-    )
+fn other_files() -> Result<(), Fail> {
+    for (file, number, place) in OTHERS {
+        check_eq(answer(file), (number, place))?;
+    }
+    Ok(())
 }
 
 // So many methods, threads and cells, and the refusal.
+const COUNTS: [(u8, usize, usize, u8, usize); 10] = [
+    (0, 1, 0, 11, 0),
+    (1, 1, 0, 0, 0),
+    (32, 1, 0, 0, 0),
+    (33, 1, 0, 11, 0),
+    (1, 0, 0, 11, 5),
+    (1, 8, 0, 0, 0),
+    (1, 9, 0, 11, 5),
+    (1, 1, 32, 0, 0),
+    (1, 1, 33, 11, 9),
+    (32, 8, 33, 11, 16),
+];
+
 #[test]
 fn counts(rt: LibcRuntime) -> Result<(), Fail> {
-    let cases: [(u8, usize, usize, u8, usize); 10] = [
-        (0, 1, 0, 11, 0),
-        (1, 1, 0, 0, 0),
-        (32, 1, 0, 0, 0),
-        (33, 1, 0, 11, 0),
-        (1, 0, 0, 11, 5),
-        (1, 8, 0, 0, 0),
-        (1, 9, 0, 11, 5),
-        (1, 1, 32, 0, 0),
-        (1, 1, 33, 11, 9),
-        (32, 8, 33, 11, 16),
-    ];
-    for (methods, threads, cells, number, place) in cases {
+    for (methods, threads, cells, number, place) in COUNTS {
         let file = small(rt.alloc(), methods, threads, cells)?;
         check_eq(answer(file.as_slice()), (number, place))?;
     }

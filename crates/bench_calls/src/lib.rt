@@ -1,8 +1,11 @@
-// The reader for programs in other languages, as the benchmark calls it.
+// The reader, and steps of policies and machines, for programs in other languages, as the benchmarks
+// call them.
 ghost use mathlib.Core.Path.{_≡_};
 ghost use Rattle.model.specs.Reading.{read-applet};
 ghost use Rattle.bench_calls.specs.Answers.{number-of, place-of};
 use applet::Applet;
+
+mod steps;
 
 // A refusal's number and place, both 0 where the file reads.
 #[repr(C)]

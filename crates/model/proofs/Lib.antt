@@ -41,9 +41,12 @@ pub mod PolicyRoundTrip
 pub mod PolicyAccepted
 pub mod EnforcedPolicies
 pub mod TableFiles
+pub mod PolicyKinds
 -- the calls on a policy, and the watch
 pub mod Rows
 pub mod Watch
 -- examples
 pub mod Examples
 pub mod RefusedFiles
+-- the file of a rule policy
+pub mod RuleFiles

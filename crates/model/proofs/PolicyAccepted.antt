@@ -176,7 +176,7 @@ checked-is n a p c e t h = go (tokens n a c) refl h
     go (Some d) s r = cond-both (balanced 0 d) (Ok d) (refuse (BadExpression p)) (λ x. x ≡ Ok e → (Bytes c → expr-bytes e ≡ c) × Valid-expr n a e) (λ y q. good d s y cc)
         (λ y q. absurd (err-ok q)) r
 
-all-three : (a b c : Bool) → a && b && c ≡ true → (a ≡ true) × (b ≡ true) × (c ≡ true)
+pub all-three : (a b c : Bool) → a && b && c ≡ true → (a ≡ true) × (b ≡ true) × (c ≡ true)
 all-three true b c e = let p = and-parts b c e in (refl, p .0, p .1)
 all-three false b c e = absurd (false≢true e)
 
@@ -269,6 +269,14 @@ module _ (n : ℕ) where
       let rest = read-rule-list-is xs ys (h .1) e₂ in
       let z : y ∷ ys ≡ rs = cc in
       rw (← z) (λ b. ap₂ (λ d d′. d ++ d′) (r .0 (b .0)) (rest .0 (b .1)), ap suc (rest .1), (r .1, rest .2))
+
+-- rules whose fields and expressions were read
+pub rules-written : (n p : ℕ) (r : List ℕ) (xs : List Raw) (rs : List Rule) → fields 64 67 (rule-field n) p r ≡ Ok xs → read-rule-list n xs ≡ Ok rs →
+    (Bytes r → joined rule-bytes rs ≡ r) × (length rs ≤ 64) × All (Valid-rule n) rs
+rules-written n p r xs rs ex er =
+    let fs = fields-is 67 (rule-field n) (raw-bytes n) (ByteRaw n) (Ruled n) (rule-field-is n) 64 p r xs ex in
+    let rr = read-rule-list-is n xs rs (fs .2) er in
+    (λ k. let i = fs .0 k in rr .0 (i .1) ∙ i .0, rw (rr .1) (fs .1), rr .2)
 
 pub rules-accepted : (f : List ℕ) (p : Rules) → read-rules f ≡ Ok p → (Bytes f → write-rules p ≡ f) × Valid-rules p
 rules-accepted f p e =

@@ -105,7 +105,7 @@ length-expr (cell i ∷ e) = let h = length-expr e in omega arith
 length-expr (argument i ∷ e) = let h = length-expr e in omega arith
 length-expr (operator o ∷ e) = let h = length-expr e in omega arith
 
-tokens-write : (n a : ℕ) (e : Expr) → All (Valid-token n a) e → tokens n a (expr-bytes e) ≡ Some e
+pub tokens-write : (n a : ℕ) (e : Expr) → All (Valid-token n a) e → tokens n a (expr-bytes e) ≡ Some e
 tokens-write n a [] h = refl
 tokens-write n a (constant z ∷ e) h = ap₂ (λ y o. both (Some (constant y)) o) (ap (toZ w16) (word-halves (ofZ w16 z)) ∙ toZ-ofZ w16 z (h .0))
     (tokens-write n a e (h .1))
@@ -122,7 +122,7 @@ checked-write : (n a p : ℕ) (e : Expr) → Valid-expr n a e → checked p (tok
 checked-write n a p e h = rw (tokens-write n a e (h .tokens), h .balanced)
 
 -- the contents of tag 69
-abbrev update-contents : Update → List ℕ
+abbrev pub update-contents : Update → List ℕ
 update-contents u = u .cell ∷ expr-bytes (u .value)
 
 -- an update as it is kept between the two passes
@@ -134,7 +134,7 @@ module _ (n a : ℕ) where
   unfolding _>>=_
   update-field-write p u h = rw (le-leb 1 (length (update-contents u)) (omega arith), lt-ltb (u .cell) n (h .0), triples-write n a (u .value) (h .1))
 
-  short-update : (u : Update) → Valid-update n a u → length (update-contents u) ≤ 97
+  pub short-update : (u : Update) → Valid-update n a u → length (update-contents u) ≤ 97
   short-update u h = let l = length-expr (u .value) in omega arith
 
   read-updates-write : (p : ℕ) (us : List Update) → All (Valid-update n a) us →
@@ -144,7 +144,7 @@ module _ (n a : ℕ) where
   read-updates-write p (u ∷ us) h = rw (checked-write n a p (u .value) (h .0 .1), read-updates-write (p + (3 + length (update-contents u))) us (h .1))
 
 -- the contents of tag 67
-abbrev rule-contents : Rule → List ℕ
+abbrev pub rule-contents : Rule → List ℕ
 rule-contents r = r .call ∷ moment-number (r .moment) ∷ field 68 (expr-bytes (r .guard)) ++ joined update-bytes (r .updates)
 
 -- a rule as it is kept between the two passes
@@ -175,7 +175,7 @@ module _ (n : ℕ) where
         fields-write 69 (update-field n) update-contents kept-update 8 (p + 5 + (3 + length (expr-bytes (r .guard)))) (r .updates) (h .few) us,
       )
 
-  short-rule : (r : Rule) → Valid-rule n r → length (rule-contents r) < 65536
+  pub short-rule : (r : Rule) → Valid-rule n r → length (rule-contents r) < 65536
   short-rule r h =
       let a = arguments (r .moment) in
       let l = length-expr (r .guard) in

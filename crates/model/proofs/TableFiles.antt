@@ -7,22 +7,29 @@ use Prim.Native.Nat.{ℕ, zero, suc, _+_, _*_, _<_, _≤_}
 use native.Mathlib.Nat.{mul-zero, mul-suc, mul-le-mul-left}
 use native.Mathlib.Omega.{arith}
 use lib.Dec.{eqb, leb, ltb}
+use lib.IntN.{ℤ, pos, negsuc}
 use lib.ListN.{length, take, drop, getD, length-drop, length-map}
-use Rattle.std.specs.shelf.Lists.{All}
-use Rattle.std.specs.Results.{isOk}
+use Rattle.std.specs.Results.{isOk, isErr}
 use Rattle.std.proofs.shelf.Lists.{getD-drop, getD-take, getD-map}
-use Rattle.std.proofs.shelf.Tests.{false≢true, eqb-true, and-parts}
+use Rattle.std.proofs.shelf.Tests.{false≢true, eqb-true, eq-eqb, ne-eqb, cases-eq}
+use Rattle.std.specs.declared.option.Option.the-variants.{Some, None}
 use Rattle.std.specs.declared.result.Result.the-variants.{Ok, Err}
+use Rattle.model.specs.declared.Moment.{Moment}
+use Rattle.model.specs.declared.Refusal.{Refusal}
 use Rattle.model.specs.declared.Refusal.the-variants.{BadPolicyField}
 use Rattle.model.specs.Policy.{Showing}
-use Rattle.model.specs.Fields.{Read, Part, Field, within, every, next, expect, fields, announced, contents-at, _>>=_}
+use Rattle.model.specs.Fields.{Read, Part, Field, within, every, next, expect, fields, field, announced, contents-at, _>>=_}
 use Rattle.model.specs.Parts.{Handed}
 use Rattle.model.specs.Tables.{Row, Table, row-field, row-in, read-rows, read-table, reads-table, table-in, table-or-refusing, refusing-table, Valid-table}
-use Rattle.model.specs.Tables.{table-automaton, table-block}
+use Rattle.model.specs.Tables.{table-automaton, table-block, row-of, by-row, from, write-table, table-answer, refusing-rows, RefusesCalls}
 use Rattle.model.proofs.Accepted.{err-ok, bound, needed}
 use Rattle.model.proofs.Parts.{parts-of-files}
 use Rattle.model.proofs.PolicyAccepted.{table-accepted, tested-is, all-four}
 use Rattle.model.proofs.TableBlocks.{table-showing}
+
+-- that a table was read
+abbrev done : Read Table → Read (Unit {0})
+done r = r >>= (λ t. Ok tt)
 
 -- a file that reads, reads as its table
 pub read-in : (f : List ℕ) → reads-table f ≡ true → read-table f ≡ Ok (table-in f)
@@ -154,3 +161,60 @@ pub row-ends : (f : List ℕ) (t : Table) → TableFile f t → (i : ℕ) → i 
 row-ends f t w i h =
     let k = mul-le-mul-left {m = suc i} {n = length (t .rows)} (5 + t .states) (omega arith) in
     omega (arith, w .size, mul-suc (5 + t .states) i, k)
+
+-- ---- the table that refuses every call
+
+pub refusing-read : read-table (write-table refusing-table) ≡ Ok refusing-table
+unfolding _>>=_ expect fields field refusing-table
+refusing-read = refl
+
+pub refusing-reads : reads-table (write-table refusing-table) ≡ true
+refusing-reads = ap isOk refusing-read
+
+pub refusing-in : table-in (write-table refusing-table) ≡ refusing-table
+unfolding table-in
+refusing-in = ap table-or-refusing refusing-read
+
+-- by what check answers
+pub reads-by : (f : List ℕ) → Ok tt ≡ table-answer f → reads-table f ≡ true
+unfolding _>>=_
+reads-by f h = go (read-table f) h
+  where
+    go : (r : Read Table) → Ok tt ≡ done r → isOk r ≡ true
+    go (Ok t) h = refl
+    go (Err x) h = absurd (err-ok (sym h))
+
+pub refused-by : (f : List ℕ) (x : Refusal) → Err x ≡ table-answer f → table-in f ≡ refusing-table
+unfolding _>>=_ table-in
+refused-by f x h = go (read-table f) h
+  where
+    go : (r : Read Table) → Err x ≡ done r → table-or-refusing r ≡ refusing-table
+    go (Ok t) h = absurd (err-ok h)
+    go (Err y) h = refl
+
+refusing-row-of : (k n j : ℕ) → j ≤ k → k < j + n → row-of (refusing-rows n j) k Moment.Before ≡ Some (255 ∷ [])
+refusing-row-of k zero j a b = absurd (omega arith)
+refusing-row-of k (suc n) j a b = go (cases-eq j k) (refusing-row-of k n (j + 1))
+  where
+    go : (j ≡ k) ⊎ (j ≡ k → ⊥) → (j + 1 ≤ k → k < j + 1 + n → row-of (refusing-rows n (j + 1)) k Moment.Before ≡ Some (255 ∷ [])) →
+        row-of (refusing-rows (suc n) j) k Moment.Before ≡ Some (255 ∷ [])
+    go (inl e) ih = rw (eq-eqb j k e)
+    go (inr e) ih = rw (ne-eqb j k e) (ih (omega arith) (omega arith))
+
+pub refuses-calls : RefusesCalls (table-automaton refusing-table)
+unfolding refusing-table
+refuses-calls k args answer c h = ap (by-row c) (refusing-row-of k 64 0 (omega arith) (omega arith)) ∙ go (getD c 0 (pos 0))
+  where
+    go : (z : ℤ) → from c (255 ∷ []) z ≡ None
+    go (pos zero) = refl
+    go (pos (suc v)) = refl
+    go (negsuc v) = refl
+
+-- the same, by whether it refuses
+pub reads-if : (f : List ℕ) (r : Read (Unit {0})) → r ≡ table-answer f → isErr r ≡ false → reads-table f ≡ true
+reads-if f (Ok u) e h = reads-by f e
+reads-if f (Err x) e h = absurd (false≢true (sym h))
+
+pub refused-if : (f : List ℕ) (r : Read (Unit {0})) → r ≡ table-answer f → isErr r ≡ true → table-in f ≡ refusing-table
+refused-if f (Ok u) e h = absurd (false≢true h)
+refused-if f (Err x) e h = refused-by f x e

@@ -11,7 +11,8 @@ use mir.Val.{toZ, ofZ, SFits}
 use Rattle.std.specs.shelf.Lists.{kept-by, joined, All}
 use Rattle.std.specs.declared.option.Option.{Option}
 use Rattle.std.specs.declared.option.Option.the-variants.{Some, None}
-use Rattle.std.specs.declared.result.Result.the-variants.{Ok}
+use Rattle.std.specs.declared.result.Result.the-variants.{Ok, Err}
+use Rattle.std.specs.Results.{isOk}
 use Rattle.model.specs.declared.Moment.{Moment}
 use Rattle.model.specs.declared.Operator.{Operator}
 use Rattle.model.specs.Moments.{moment-number, moment-of, same-moment}
@@ -290,3 +291,29 @@ pub record Valid-rules (p : Rules) : Type 0 where
   pub few : length (p .rules) ≤ 64
   pub rules : All (Valid-rule (length (p .starts))) (p .rules)
   pub blocks : short-blocks p ≡ true
+
+-- a rule that refuses call k before it is handed out
+abbrev pub refusing-rule : ℕ → Rule
+refusing-rule k = record { call = k; moment = Moment.Before; guard = constant (pos 0) ∷ []; updates = [] }
+
+-- n such rules, from call k on
+abbrev pub refusing-each : ℕ → ℕ → List Rule
+refusing-each zero k = []
+refusing-each (suc n) k = refusing-rule k ∷ refusing-each n (k + 1)
+
+-- the rule policy that refuses every call
+unfoldable pub refusing-rules : Rules
+refusing-rules = record { starts = []; rules = refusing-each 64 0 }
+
+-- a file reads as a rule policy
+abbrev pub reads-rules : List ℕ → Bool
+reads-rules f = isOk (read-rules f)
+
+-- the policy that was read; where none was, the one that refuses every call
+abbrev pub rules-or-refusing : Read Rules → Rules
+rules-or-refusing (Ok p) = p
+rules-or-refusing (Err r) = refusing-rules
+
+-- the rule policy of a file
+unfoldable pub rules-in : List ℕ → Rules
+rules-in f = rules-or-refusing (read-rules f)

@@ -149,8 +149,16 @@ refusing-rows zero k = []
 refusing-rows (suc n) k = refusing-row k ∷ refusing-rows n (k + 1)
 
 -- the state table that refuses every call
-abbrev pub refusing-table : Table
+unfoldable pub refusing-table : Table
 refusing-table = record { states = 1; start = 0; rows = refusing-rows 64 0 }
+
+-- before any call up to 63 it refuses
+abbrev pub RefusesCalls : Automaton → Type 0
+RefusesCalls A = (k : ℕ) (args : List ℤ) (answer : ℤ) (c : List ℤ) → k ≤ 63 → A .step (record { moment = Moment.Before; call = k; args = args; answer = answer }) c ≡ None
+
+-- what reading a state table answers
+abbrev pub table-answer : List ℕ → Read (Unit {0})
+table-answer f = read-table f >>= (λ t. Ok tt)
 
 -- a file reads as a state table
 abbrev pub reads-table : List ℕ → Bool

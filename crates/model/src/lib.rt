@@ -76,6 +76,13 @@ pub enum Verdict {
     Refused,
 }
 
+// What a policy file holds, by its first tag.
+#[derive(Clone, Copy, PartialEq, Eq, Debug)]
+pub enum PolicyKind {
+    Rules,
+    Table,
+}
+
 // A thread can be stepped, awaits an answer, or has ended.
 #[derive(Clone, Copy, PartialEq, Eq, Debug)]
 pub enum Status {

@@ -10,3 +10,5 @@ pub mod Pairs
 pub mod WithinLimits
 -- the calls on a watch
 pub mod Watched
+-- the reading of state tables
+pub mod TableReading

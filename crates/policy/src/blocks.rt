@@ -18,7 +18,7 @@ pub fn put(area: &mut [u8], at: usize, test: Test)
 }
 
 // Writes instructions one after the other from a place of the area on.
-pub fn put_all(area: &mut [u8], at: usize, tests: &[Test])
+pub(crate) fn put_all(area: &mut [u8], at: usize, tests: &[Test])
     requires { ⌜ at + 4 * length (now tests) ≤ length (now area) ⌝ }
     ensures { λ _. ⌜ now (area .exit) ≡ put-at (now (area .entry)) at (block-bytes (now (tests .entry))) ⌝ }
 {

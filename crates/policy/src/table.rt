@@ -8,7 +8,7 @@ ghost use lib.IntN.{ℤ, pos};
 ghost use denote.Ref.{now as behind};
 ghost use Rattle.std.specs.Options.{mapped, Cases as BySome};
 ghost use Rattle.model.specs.Moments.{moment-of, same-moment};
-ghost use Rattle.model.specs.Tables.{from, has-row, reads-table, row-for, row-in, row-of, states-block, table-automaton, table-block, table-in};
+ghost use Rattle.model.specs.Tables.{from, has-row, reads-table, row-for, row-in, row-of, states-block, table-answer, table-automaton, table-block, table-in, refusing-table, write-table, RefusesCalls};
 ghost use Rattle.model.specs.Calls.{block-bytes};
 ghost use Rattle.model.proofs.TableFiles.{table-shown};
 ghost use Rattle.policy.specs.Calls.{put-at};
@@ -20,6 +20,7 @@ use crate::calls::known;
 use crate::calls::may_start;
 use crate::calls::may_step;
 use crate::calls::may_write;
+use crate::reader::check_table;
 use model::Moment;
 use model::Operator;
 use model::Refusal;
@@ -27,13 +28,39 @@ use model::Test;
 use model::Verdict;
 
 // In a row, by state, the next state, or this where the event is refused.
-const REFUSED: u8 = 255;
+pub const REFUSED: u8 = 255;
+
+// The file of a table of one state with a row for each call, which refuses it.
+static REFUSING: &[u8; 390] = b"a\x00\x03\x01\x01\x00\
+      b\x00\x03\x00\x00\xffb\x00\x03\x01\x00\xffb\x00\x03\x02\x00\xffb\x00\x03\x03\x00\xff\
+      b\x00\x03\x04\x00\xffb\x00\x03\x05\x00\xffb\x00\x03\x06\x00\xffb\x00\x03\x07\x00\xff\
+      b\x00\x03\x08\x00\xffb\x00\x03\x09\x00\xffb\x00\x03\x0a\x00\xffb\x00\x03\x0b\x00\xff\
+      b\x00\x03\x0c\x00\xffb\x00\x03\x0d\x00\xffb\x00\x03\x0e\x00\xffb\x00\x03\x0f\x00\xff\
+      b\x00\x03\x10\x00\xffb\x00\x03\x11\x00\xffb\x00\x03\x12\x00\xffb\x00\x03\x13\x00\xff\
+      b\x00\x03\x14\x00\xffb\x00\x03\x15\x00\xffb\x00\x03\x16\x00\xffb\x00\x03\x17\x00\xff\
+      b\x00\x03\x18\x00\xffb\x00\x03\x19\x00\xffb\x00\x03\x1a\x00\xffb\x00\x03\x1b\x00\xff\
+      b\x00\x03\x1c\x00\xffb\x00\x03\x1d\x00\xffb\x00\x03\x1e\x00\xffb\x00\x03\x1f\x00\xff\
+      b\x00\x03\x20\x00\xffb\x00\x03\x21\x00\xffb\x00\x03\x22\x00\xffb\x00\x03\x23\x00\xff\
+      b\x00\x03\x24\x00\xffb\x00\x03\x25\x00\xffb\x00\x03\x26\x00\xffb\x00\x03\x27\x00\xff\
+      b\x00\x03\x28\x00\xffb\x00\x03\x29\x00\xffb\x00\x03\x2a\x00\xffb\x00\x03\x2b\x00\xff\
+      b\x00\x03\x2c\x00\xffb\x00\x03\x2d\x00\xffb\x00\x03\x2e\x00\xffb\x00\x03\x2f\x00\xff\
+      b\x00\x03\x30\x00\xffb\x00\x03\x31\x00\xffb\x00\x03\x32\x00\xffb\x00\x03\x33\x00\xff\
+      b\x00\x03\x34\x00\xffb\x00\x03\x35\x00\xffb\x00\x03\x36\x00\xffb\x00\x03\x37\x00\xff\
+      b\x00\x03\x38\x00\xffb\x00\x03\x39\x00\xffb\x00\x03\x3a\x00\xffb\x00\x03\x3b\x00\xff\
+      b\x00\x03\x3c\x00\xffb\x00\x03\x3d\x00\xffb\x00\x03\x3e\x00\xffb\x00\x03\x3f\x00\xff";
 
 // A state table: one cell, which holds the state.
 #[derive(Drop)]
 pub struct Table<'a> {
     file: &'a [u8],
     ghost ok: { reads-table (file .now) ≡ true },
+}
+
+// The file of the table that refuses every call.
+fn refusing_file() -> &'static [u8]
+    ensures { λ r. ⌜ now r ≡ write-table refusing-table ⌝ }
+{
+    REFUSING
 }
 
 // Whether a moment's number names that moment.
@@ -48,7 +75,7 @@ fn is_moment(n: u8, moment: Moment) -> bool
 }
 
 // Whether a row is for that call and moment.
-fn is_row_for(row: &[u8], call: u8, moment: Moment) -> bool
+pub(crate) fn is_row_for(row: &[u8], call: u8, moment: Moment) -> bool
     requires { ⌜ 2 ≤ length (now row) ⌝ }
     ensures { λ r. ⌜ r ≡ row-for call moment (row-in (now (row .entry))) ⌝ }
 {
@@ -119,6 +146,26 @@ fn put_states(area: &mut [u8], nexts: &[u8], first: u8)
 }
 
 impl<'a> Table<'a> {
+    // What is wrong with a file as a state table, if anything.
+    pub fn check(file: &[u8]) -> Result<(), Refusal>
+        ensures { λ r. ⌜ r ≡ table-answer (now (file .entry)) ⌝ }
+    {
+        check_table(file)
+    }
+
+    // The table of a file that is one; over any other file, the table that refuses every call.
+    pub fn new(file: &'a [u8]) -> Table<'a>
+        ensures value { λ r. ⌜ table-in (now (r .file)) ≡ table-in (now (file .entry)) ⌝ }
+        ensures refusing { λ _. ⌜ RefusesCalls (table-automaton refusing-table) ⌝ }
+    {
+        if Table::check(file).is_err() {
+            return Table {
+                file: refusing_file(),
+            };
+        }
+        Table { file }
+    }
+
     // How many states the table has.
     fn states(&self) -> u8
         ensures value { λ r. ⌜ r ≡ table-in (now (now (self .entry) .file)) .states ⌝ }

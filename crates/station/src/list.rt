@@ -34,7 +34,7 @@ fn instruction(rt: &LibcRuntime, word: &[u8], index: usize, place: usize) -> Res
 }
 
 // The instructions of a method, whose code stands at a place.
-fn code(rt: &LibcRuntime, code: &[u8], place: usize) -> Result<(), AnyError> {
+pub(crate) fn code(rt: &LibcRuntime, code: &[u8], place: usize) -> Result<(), AnyError> {
     for (i, word) in code.chunks(4).enumerate() {
         instruction(rt, word, i, place.saturating_add(i.saturating_mul(4)))?;
     }

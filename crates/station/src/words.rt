@@ -79,6 +79,17 @@ pub impl fmt::Display for Named as NamedDisplay {
     }
 }
 
+// Whether a refusal stands at a place of a file.
+pub(crate) fn has_place(r: &Refusal) -> bool {
+    match r.number() {
+        0..=9 => false,
+        16 => false,
+        24 => false,
+        25 => false,
+        _ => true,
+    }
+}
+
 // What is wrong where a file is refused.
 pub(crate) fn meaning(r: &Refusal) -> &'static str {
     match *r {
