@@ -7,7 +7,12 @@ use crate::numbers::operate;
 use model::Test;
 
 // How many of the instructions behind it are passed over, or none where the machine stops.
-pub(crate) fn turn(i: Test, args: &[i32; 5], cells: &mut [i32; 32], scratch: &mut [i32; 8]) -> Option<u16>
+pub(crate) fn turn(
+    i: Test,
+    args: &[i32; 5],
+    cells: &mut [i32; 32],
+    scratch: &mut [i32; 8],
+) -> Option<u16>
     requires { ⌜ TestValid i ⌝ }
     ensures value { λ r. ⌜ r ≡ passes (turning (now (args .entry)) i (now (cells .entry)) (now (scratch .entry))) ⌝ }
     ensures cells { λ _. ⌜ now (cells .exit) ≡ cells-after (now (cells .entry)) (turning (now (args .entry)) i (now (cells .entry)) (now (scratch .entry))) ⌝ }

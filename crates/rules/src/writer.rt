@@ -133,7 +133,14 @@ fn less(a: usize, b: usize) -> usize
 
 // Writes the block for a call, a moment and a first cell at the front of an area that has room for it,
 // in one pass over the rules.
-pub(crate) fn write_rules(area: &mut [u8], rules: &[u8], width: u8, call: u8, moment: Moment, first: u8)
+pub(crate) fn write_rules(
+    area: &mut [u8],
+    rules: &[u8],
+    width: u8,
+    call: u8,
+    moment: Moment,
+    first: u8,
+)
     ensures { λ _. ⌜ ((rs : List Rule) → Written width (now (rules .entry)) rs → Cells width first → Fitting (now (area .entry)) (block-of first (rules-of rs call moment)) → now (area .exit) ≡ put-at (now (area .entry)) 0 (block-bytes (block-of first (rules-of rs call moment)))) ⌝ }
 {
     let mut left = block_len(rules, call, moment);
