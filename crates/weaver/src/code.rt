@@ -11,7 +11,7 @@ use model::Instr;
 use model::Own;
 
 // The instruction at an index of a method's code, END where the bytes are none.
-pub fn instr_at(code: &[u8], index: usize, methods: u8) -> Instr
+pub(crate) fn instr_at(code: &[u8], index: usize, methods: u8) -> Instr
     requires { ⌜ 4 * index + 4 ≤ length (now code) ⌝ }
     ensures { λ r. ⌜ r ≡ or-end (decoding methods (quad-at (now (code .entry)) (4 * index))) ⌝ }
 {
@@ -26,7 +26,7 @@ pub fn instr_at(code: &[u8], index: usize, methods: u8) -> Instr
 }
 
 // The applet's own instruction at an index, END for any other.
-pub fn own_at(code: &[u8], index: usize, methods: u8) -> Own
+pub(crate) fn own_at(code: &[u8], index: usize, methods: u8) -> Own
     requires { ⌜ 4 * index + 4 ≤ length (now code) ⌝ }
     ensures value { λ r. ⌜ r ≡ own-of (or-end (decoding methods (quad-at (now (code .entry)) (4 * index)))) ⌝ }
     ensures known { λ r. ⌜ Called r ⌝ }
@@ -38,7 +38,7 @@ pub fn own_at(code: &[u8], index: usize, methods: u8) -> Own
 }
 
 // How many instructions stand for one.
-pub fn size_of(c: Own, sizes: &[u16; 64]) -> u16
+pub(crate) fn size_of(c: Own, sizes: &[u16; 64]) -> u16
     requires { ⌜ Called c ⌝ }
     ensures { λ r. ⌜ r ≡ size-by (now (sizes .entry)) c ⌝ }
 {
@@ -49,7 +49,12 @@ pub fn size_of(c: Own, sizes: &[u16; 64]) -> u16
 }
 
 // Fills in the woven index of each of a method's indices and of its end, and answers the last.
-pub fn fill_starts(code: &[u8], methods: u8, sizes: &[u16; 64], starts: &mut [u32; 4097]) -> usize
+pub(crate) fn fill_starts(
+    code: &[u8],
+    methods: u8,
+    sizes: &[u16; 64],
+    starts: &mut [u32; 4097],
+) -> usize
     requires { ⌜ length (now code) / 4 ≤ 4096 ⌝ }
     ensures end { λ r. ⌜ r ≡ start-by (now (sizes .entry)) (owns methods (now (code .entry))) (length (now (code .entry)) / 4) ⌝ }
     ensures starts { λ _. ⌜ ((j : ℕ) → j ≤ length (now (code .entry)) / 4 → getD (now (starts .exit)) j 0 ≡ start-by (now (sizes .entry)) (owns methods (now (code .entry))) j) ⌝ }
@@ -73,7 +78,7 @@ fn start_of(starts: &[u32; 4097], count: usize, target: u16) -> u16
 }
 
 // The same instruction with its target's woven index.
-pub fn retarget(c: Own, starts: &[u32; 4097], count: usize) -> Own
+pub(crate) fn retarget(c: Own, starts: &[u32; 4097], count: usize) -> Own
     requires count { ⌜ count ≤ 4096 ⌝ }
     requires starts { ⌜ ((j : ℕ) → j ≤ count → getD (now starts) j 0 ≤ 4096) ⌝ }
     ensures value { λ r. ⌜ r ≡ retargeted (λ t. getD (now (starts .entry)) (min t count) 0) c ⌝ }

@@ -9,7 +9,7 @@ ghost use Rattle.policy.specs.Calls.{put-at};
 use policy::Policy;
 
 // Writes a tag and a length, and answers the place behind them.
-pub fn put_head(area: &mut [u8], at: usize, tag: u8, len: usize) -> usize
+pub(crate) fn put_head(area: &mut [u8], at: usize, tag: u8, len: usize) -> usize
     requires room { ⌜ at + 3 ≤ length (now area) ⌝ }
     requires len { ⌜ len ≤ 65535 ⌝ }
     ensures area { λ _. ⌜ now (area .exit) ≡ put-at (now (area .entry)) at (tag ∷ high len ∷ low len ∷ []) ⌝ }
@@ -20,7 +20,7 @@ pub fn put_head(area: &mut [u8], at: usize, tag: u8, len: usize) -> usize
 }
 
 // Writes a field, and answers the place behind it.
-pub fn put_field(area: &mut [u8], at: usize, tag: u8, contents: &[u8]) -> usize
+pub(crate) fn put_field(area: &mut [u8], at: usize, tag: u8, contents: &[u8]) -> usize
     requires room { ⌜ at + (3 + length (now contents)) ≤ length (now area) ⌝ }
     requires len { ⌜ length (now contents) ≤ 65535 ⌝ }
     ensures area { λ _. ⌜ now (area .exit) ≡ put-at (now (area .entry)) at (field tag (now (contents .entry))) ⌝ }
@@ -65,7 +65,7 @@ fn start_row<P: Policy>(p: &P) -> [i32; 32]
 }
 
 // Writes the field of the start values, and answers the place behind it.
-pub fn put_starts<P: Policy>(p: &P, area: &mut [u8], at: usize) -> usize
+pub(crate) fn put_starts<P: Policy>(p: &P, area: &mut [u8], at: usize) -> usize
     requires width { ⌜ meaning (now p) .width ≤ 32 ⌝ }
     requires room { ⌜ at + (3 + 4 * meaning (now p) .width) ≤ length (now area) ⌝ }
     ensures area { λ _. ⌜ now (area .exit) ≡ put-at (now (area .entry)) at (field 3 (flat (map quad-of (meaning (now (p .entry)) .starts)))) ⌝ }

@@ -99,7 +99,7 @@ fn no_starts() -> [u32; 4097] {
 }
 
 // Weaves an applet that was read.
-pub fn weave_applet<P: Policy>(
+pub(crate) fn weave_applet<P: Policy>(
     p: &P,
     applet: &Applet<'_>,
     area: &mut [u8],

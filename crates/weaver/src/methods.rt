@@ -25,13 +25,13 @@ use policy::Policy;
 
 // A method: its place in the file, and its code.
 #[derive(Clone, Copy)]
-pub struct Method<'a> {
+pub(crate) struct Method<'a> {
     pub place: usize,
     pub code: &'a [u8],
 }
 
 // A method of an applet, if there is one.
-pub fn nth_method<'a>(applet: &Applet<'a>, m: usize) -> Option<Method<'a>>
+pub(crate) fn nth_method<'a>(applet: &Applet<'a>, m: usize) -> Option<Method<'a>>
     requires { ⌜ Sound (now applet) ⌝ }
     ensures { λ r. ⌜ BySome r (length (meant (now (applet .entry)) .methods) ≤ m) (λ x. MethodAt (meant (now (applet .entry))) m (x .place) (now (x .code))) ⌝ }
 {
@@ -83,7 +83,7 @@ fn plain_methods(applet: &Applet<'_>) -> Result<(), Refusal>
 }
 
 // Refuses an applet that has cells or an instruction that is none of the applet's own.
-pub fn plain_applet(applet: &Applet<'_>) -> Result<(), Refusal>
+pub(crate) fn plain_applet(applet: &Applet<'_>) -> Result<(), Refusal>
     requires { ⌜ Sound (now applet) ⌝ }
     ensures { λ r. ⌜ r ≡ forget (plain-of (meant (now (applet .entry)))) ⌝ }
 {
@@ -122,7 +122,7 @@ fn put_code<P: Policy>(
 }
 
 // Writes the field of a method's woven code, and answers the place behind it.
-pub fn put_method<P: Policy>(
+pub(crate) fn put_method<P: Policy>(
     p: &P,
     code: &[u8],
     methods: u8,

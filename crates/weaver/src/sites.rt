@@ -43,7 +43,7 @@ fn host_size<P: Policy>(p: &P, call: u8) -> u16
 }
 
 // The same for each call.
-pub fn host_sizes<P: Policy>(p: &P) -> [u16; 64]
+pub(crate) fn host_sizes<P: Policy>(p: &P) -> [u16; 64]
     requires { ⌜ Limited (meaning (now p)) (blocks (now p)) ⌝ }
     ensures { λ r. ⌜ HostSizes (meaning (now (p .entry))) (blocks (now (p .entry))) r ⌝ }
 {
@@ -113,7 +113,7 @@ fn put_site<P: Policy>(
 
 // Writes what stands for an instruction at a woven index, its target being a woven index too, and
 // answers the place behind it.
-pub fn put_piece<P: Policy>(
+pub(crate) fn put_piece<P: Policy>(
     p: &P,
     c: Own,
     index: u16,
