@@ -168,10 +168,10 @@ fn guarded(size: usize) -> Vec<[u8; 4]> {
     block.repeat(size / block.len())
 }
 
-/// Seconds of one turn of so many: the least of 60 rounds, the two in turn.
+/// Seconds of one turn of so many: the least of 600 rounds of about a millisecond each, the two in turn.
 fn best(turns: u32, proved: impl Fn(u32) -> u64, plain: impl Fn(u32) -> u64) -> (f64, f64) {
     let mut low = (f64::INFINITY, f64::INFINITY);
-    for _ in 0..60 {
+    for _ in 0..600 {
         let t = Instant::now();
         black_box(proved(black_box(turns)));
         low.0 = low.0.min(t.elapsed().as_secs_f64() / turns as f64);
@@ -204,16 +204,15 @@ fn main() {
     let same: Vec<_> = (0..64).map(|k| rule(5, if k < 63 { 1 } else { 100 }, k % 16)).collect();
     let other = policy(2, &[rule(5, 50, 0)]);
     let cases = [
-        ("one rule", one(), None, 5, 3),
-        ("one rule, refused", one(), None, 5, 100),
-        ("64 rules, first call", policy(16, &apart), None, 0, 3),
-        ("64 rules, last call", policy(16, &apart), None, 63, 3),
-        ("64 rules of one call", policy(16, &same), None, 5, 3),
-        ("pair of one rule each", one(), Some(other), 5, 3),
+        ("one rule", one(), None, 5, 3, 30_000),
+        ("one rule, refused", one(), None, 5, 100, 60_000),
+        ("64 rules, first call", policy(16, &apart), None, 0, 3, 30_000),
+        ("64 rules, last call", policy(16, &apart), None, 63, 3, 3_000),
+        ("64 rules of one call", policy(16, &same), None, 5, 3, 1_000),
+        ("pair of one rule each", one(), Some(other), 5, 3, 15_000),
     ];
-    for (name, one, two, call, a0) in cases {
+    for (name, one, two, call, a0, turns) in cases {
         let e = Events { one, two, call, a0 };
-        let turns = if name.starts_with("64") { 20_000 } else { 200_000 };
         measure(name, turns, a0 < 100, |n| e.proved(n), |n| e.plain(n));
     }
     heading("steps of the machine");
@@ -228,6 +227,6 @@ fn main() {
         ("HOST and its answer", applet(&[0], &[again(vec![[0x0D, 3, 0, 0]; 64])]), 0),
     ];
     for (name, file, last) in &cases {
-        measure(name, 500_000, true, |n| run_proved(file, *last, n), |n| run_plain(file, *last, n));
+        measure(name, 100_000, true, |n| run_proved(file, *last, n), |n| run_plain(file, *last, n));
     }
 }
