@@ -12,9 +12,9 @@ back : (n : ℕ) (q : Quad) (o : Option Instr) → q.d < 256 → o ≡ decode n 
 back n q None h e = tt
 back n q (Some i) h e = (decoded n q i (sym e)).0 h
 
-pub returns-in-default : goal.returns-in-default
-returns-in-default c =
-    record { value = decode_none c.args.methods (quad_at c.args.bytes 0) (sym (ap (option_map row) c.in-default.is) ∙ c.look-up.ensures); back = tt }
+pub returns-in_default : goal.returns-in_default
+returns-in_default c =
+    record { value = decode_none c.args.methods (quad_at c.args.bytes 0) (sym (ap (option_map row) c.in_default.is) ∙ c.look_up.ensures); back = tt }
 
 pub returns-then-not-fits : goal.returns-then-not-fits
 returns-then-not-fits c =
