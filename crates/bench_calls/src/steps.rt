@@ -30,8 +30,8 @@ fn next_of(thread: u8, last: u8) -> u8
 
 // Whether a policy takes a before event, by which the row is stepped.
 fn takes<P: Policy>(p: &P, call: u8, a0: i32, row: &mut [i32; 32]) -> bool
-    ensures value { result ≡ is_taken (step_answer (meaning p.now) (before_call call a0) row.old) }
-    ensures row { row.new ≡ row_after (meaning p.now) (before_call call a0) row.old }
+    ensures value { result ≡ is_taken (step_answer (P.meaning p.now) (before_call call a0) row.old) }
+    ensures row { row.new ≡ row_after (P.meaning p.now) (before_call call a0) row.old }
 {
     match p.step(Moment::Before, call, &[a0, 0, 0, 0], 0, row) {
         Ok(Verdict::Taken) => true,
@@ -41,7 +41,7 @@ fn takes<P: Policy>(p: &P, call: u8, a0: i32, row: &mut [i32; 32]) -> bool
 
 // Steps a policy's row by the same before event so many times, and answers how many were taken.
 fn taken<P: Policy>(p: &P, call: u8, a0: i32, times: u32) -> u32
-    ensures { result ≡ takes_of (meaning p.now) call a0 times }
+    ensures { result ≡ takes_of (P.meaning p.now) call a0 times }
 {
     let mut row = [0i32; 32];
     let _ = p.starts(&mut row);

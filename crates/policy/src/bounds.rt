@@ -8,7 +8,7 @@ use model::{Moment, Refusal};
 
 // Whether the blocks for a call have at most 1,000 instructions each.
 fn short_blocks<P: Policy>(p: &P, call: u8) -> bool
-    ensures { result ≡ each_moment (λ t. nat_le (length (blocks p.now call t 0)) 1000) }
+    ensures { result ≡ each_moment (λ t. nat_le (length (P.blocks p.now call t 0)) 1000) }
 {
     p.block_len(call, Moment::Before) <= 1000
         && p.block_len(call, Moment::After) <= 1000
@@ -17,7 +17,7 @@ fn short_blocks<P: Policy>(p: &P, call: u8) -> bool
 
 // A policy has at most 32 cells, and each of its blocks at most 1,000 instructions.
 pub fn limits<P: Policy>(p: &P) -> Result<(), Refusal>
-    ensures { result ≡ policy_limits (meaning p.now) (blocks p.now) }
+    ensures { result ≡ policy_limits (P.meaning p.now) (P.blocks p.now) }
 {
     if p.width() > 32 {
         return Err(Refusal::TooManyCells);

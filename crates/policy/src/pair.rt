@@ -48,7 +48,7 @@ fn taken(answer: Result<Verdict, Refusal>) -> bool
 // Writes a policy's block from a place of the area on.
 fn write_behind<P: Policy>(p: &P, call: u8, moment: Moment, first: u8, area: &mut [u8], at: usize)
     requires { at ≤ length area.old }
-    ensures { area.new ≡ take at area.old ++ block_area (meaning p.now) (blocks p.now) call moment first (drop at area.old) }
+    ensures { area.new ≡ take at area.old ++ block_area (P.meaning p.now) (P.blocks p.now) call moment first (drop at area.old) }
 {
     let _ = p.write_block(call, moment, first, &mut area[at..]);
 }

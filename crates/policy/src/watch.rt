@@ -33,7 +33,7 @@ impl<P: Policy> Watch<P> {
     // A watch that was not begun. From begin on it says of a run's events what the policy says.
     pub fn new(policy: P) -> Watch<P>
         ensures value { result ≡ record { policy = policy; begun = false } }
-        ensures law { Watches (meaning policy) }
+        ensures law { Watches (P.meaning policy) }
     {
         Watch {
             policy,
@@ -43,8 +43,8 @@ impl<P: Policy> Watch<P> {
 
     // Writes the start values into the row; from then on events are judged.
     pub fn begin(&mut self, row: &mut [i32]) -> Result<(), Refusal>
-        ensures answer { result ≡ begin_answer (meaning self.old.policy) (record { cells = row.old; begun = self.old.begun }) }
-        ensures watch { record { cells = row.new; begun = self.new.begun } ≡ begun_after (meaning self.old.policy) (record { cells = row.old; begun = self.old.begun }) }
+        ensures answer { result ≡ begin_answer (P.meaning self.old.policy) (record { cells = row.old; begun = self.old.begun }) }
+        ensures watch { record { cells = row.new; begun = self.new.begun } ≡ begun_after (P.meaning self.old.policy) (record { cells = row.old; begun = self.old.begun }) }
         ensures policy { self.new.policy ≡ self.old.policy }
     {
         self.policy.starts(row)?;
@@ -61,8 +61,8 @@ impl<P: Policy> Watch<P> {
         answer: i32,
         row: &mut [i32],
     ) -> Result<Verdict, Refusal>
-        ensures answer { result ≡ judge_answer (meaning self.old.policy) (record { cells = row.old; begun = self.old.begun }) (record { moment = moment; call = call; args = args.now; answer = answer }) }
-        ensures watch { record { cells = row.new; begun = self.new.begun } ≡ judged_after (meaning self.old.policy) (record { cells = row.old; begun = self.old.begun }) (record { moment = moment; call = call; args = args.now; answer = answer }) }
+        ensures answer { result ≡ judge_answer (P.meaning self.old.policy) (record { cells = row.old; begun = self.old.begun }) (record { moment = moment; call = call; args = args.now; answer = answer }) }
+        ensures watch { record { cells = row.new; begun = self.new.begun } ≡ judged_after (P.meaning self.old.policy) (record { cells = row.old; begun = self.old.begun }) (record { moment = moment; call = call; args = args.now; answer = answer }) }
         ensures policy { self.new.policy ≡ self.old.policy }
     {
         if !self.begun {

@@ -54,8 +54,8 @@ fn put_cells(area: &mut [u8], at: usize, cells: &[i32]) -> usize
 
 // The start values of a policy's cells, then zeros.
 fn start_row<P: Policy>(p: &P) -> [i32; 32]
-    requires { (meaning p.now).width ≤ 32 }
-    ensures { take (meaning p.now).width result ≡ (meaning p.now).starts }
+    requires { (P.meaning p.now).width ≤ 32 }
+    ensures { take (P.meaning p.now).width result ≡ (P.meaning p.now).starts }
 {
     let mut row = [0; 32];
     let _ = p.starts(&mut row);
@@ -64,10 +64,10 @@ fn start_row<P: Policy>(p: &P) -> [i32; 32]
 
 // Writes the field of the start values, and answers the place behind it.
 pub(crate) fn put_starts<P: Policy>(p: &P, area: &mut [u8], at: usize) -> usize
-    requires width { (meaning p.now).width ≤ 32 }
-    requires room { at + (3 + 4 * (meaning p.now).width) ≤ length area.old }
-    ensures area { area.new ≡ put_at area.old at (field 3 (flat (map quad_of (meaning p.now).starts))) }
-    ensures behind { result ≡ at + (3 + 4 * (meaning p.now).width) }
+    requires width { (P.meaning p.now).width ≤ 32 }
+    requires room { at + (3 + 4 * (P.meaning p.now).width) ≤ length area.old }
+    ensures area { area.new ≡ put_at area.old at (field 3 (flat (map quad_of (P.meaning p.now).starts))) }
+    ensures behind { result ≡ at + (3 + 4 * (P.meaning p.now).width) }
 {
     let width = p.width() as usize;
     let row = start_row(p);

@@ -24,10 +24,10 @@ fn woven_len<P: Policy>(
     sizes: &[u16; 64],
     starts: &mut [u32; 4097],
 ) -> Result<usize, Refusal>
-    requires limited { Limited (meaning p.now) (blocks p.now) }
-    requires sizes { HostSizes (meaning p.now) (blocks p.now) sizes.now }
+    requires limited { Limited (P.meaning p.now) (P.blocks p.now) }
+    requires sizes { HostSizes (P.meaning p.now) (P.blocks p.now) sizes.now }
     requires sound { Sound applet.now }
-    ensures { result ≡ woven_length (meaning p.now) (blocks p.now) (meant applet.now) }
+    ensures { result ≡ woven_length (P.meaning p.now) (P.blocks p.now) (meant applet.now) }
 {
     let methods = applet.methods();
     let mut len = 11 + applet.entries().len() + 4 * p.width() as usize;
@@ -52,12 +52,12 @@ fn put_methods<P: Policy>(
     area: &mut [u8],
     at: usize,
 )
-    requires limited { Limited (meaning p.now) (blocks p.now) }
-    requires sizes { HostSizes (meaning p.now) (blocks p.now) sizes.now }
+    requires limited { Limited (P.meaning p.now) (P.blocks p.now) }
+    requires sizes { HostSizes (P.meaning p.now) (P.blocks p.now) sizes.now }
     requires sound { Sound applet.now }
-    requires short { All (λ c. length c ≤ 4096) (woven_of (meaning p.now) (blocks p.now) (meant applet.now)).methods }
-    requires room { at + length (write_codes (woven_of (meaning p.now) (blocks p.now) (meant applet.now)).methods) ≤ length area.old }
-    ensures { area.new ≡ put_at area.old at (write_codes (woven_of (meaning p.now) (blocks p.now) (meant applet.now)).methods) }
+    requires short { All (λ c. length c ≤ 4096) (woven_of (P.meaning p.now) (P.blocks p.now) (meant applet.now)).methods }
+    requires room { at + length (write_codes (woven_of (P.meaning p.now) (P.blocks p.now) (meant applet.now)).methods) ≤ length area.old }
+    ensures { area.new ≡ put_at area.old at (write_codes (woven_of (P.meaning p.now) (P.blocks p.now) (meant applet.now)).methods) }
 {
     let methods = applet.methods();
     let mut to = at;
@@ -76,12 +76,12 @@ fn put_file<P: Policy>(
     starts: &mut [u32; 4097],
     area: &mut [u8],
 )
-    requires limited { Limited (meaning p.now) (blocks p.now) }
-    requires sizes { HostSizes (meaning p.now) (blocks p.now) sizes.now }
+    requires limited { Limited (P.meaning p.now) (P.blocks p.now) }
+    requires sizes { HostSizes (P.meaning p.now) (P.blocks p.now) sizes.now }
     requires sound { Sound applet.now }
-    requires short { All (λ c. length c ≤ 4096) (woven_of (meaning p.now) (blocks p.now) (meant applet.now)).methods }
-    requires room { length (write_applet (woven_of (meaning p.now) (blocks p.now) (meant applet.now))) ≤ length area.old }
-    ensures { area.new ≡ over_area (write_applet (woven_of (meaning p.now) (blocks p.now) (meant applet.now))) area.old }
+    requires short { All (λ c. length c ≤ 4096) (woven_of (P.meaning p.now) (P.blocks p.now) (meant applet.now)).methods }
+    requires room { length (write_applet (woven_of (P.meaning p.now) (P.blocks p.now) (meant applet.now))) ≤ length area.old }
+    ensures { area.new ≡ over_area (write_applet (woven_of (P.meaning p.now) (P.blocks p.now) (meant applet.now))) area.old }
 {
     let at = put_field(area, 0, 1, &[1, applet.methods()]);
     let at = put_field(area, at, 2, applet.entries());
@@ -100,10 +100,10 @@ pub(crate) fn weave_applet<P: Policy>(
     applet: &Applet<'_>,
     area: &mut [u8],
 ) -> Result<usize, Refusal>
-    requires limited { Limited (meaning p.now) (blocks p.now) }
+    requires limited { Limited (P.meaning p.now) (P.blocks p.now) }
     requires sound { Sound applet.now }
-    ensures answer { result ≡ woven_answer (meaning p.now) (blocks p.now) (meant applet.now) area.old }
-    ensures area { area.new ≡ woven_area (meaning p.now) (blocks p.now) (meant applet.now) area.old }
+    ensures answer { result ≡ woven_answer (P.meaning p.now) (P.blocks p.now) (meant applet.now) area.old }
+    ensures area { area.new ≡ woven_area (P.meaning p.now) (P.blocks p.now) (meant applet.now) area.old }
 {
     plain_applet(applet)?;
     let sizes = host_sizes(p);

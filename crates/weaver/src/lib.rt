@@ -18,9 +18,9 @@ mod sites;
 // length. On a refusal the area stays as it was. What was written can be stripped of its sites again,
 // which gives back the plain applet.
 pub fn weave<P: Policy>(policy: &P, plain: &[u8], area: &mut [u8]) -> Result<usize, Refusal>
-    ensures answer { result ≡ weave_answer (meaning policy.now) (blocks policy.now) plain.now area.old }
-    ensures area { area.new ≡ weave_area (meaning policy.now) (blocks policy.now) plain.now area.old }
-    ensures stripped { IfOk result (λ n. Stripped (meaning policy.now) (blocks policy.now) plain.now (take n area.new)) }
+    ensures answer { result ≡ weave_answer (P.meaning policy.now) (P.blocks policy.now) plain.now area.old }
+    ensures area { area.new ≡ weave_area (P.meaning policy.now) (P.blocks policy.now) plain.now area.old }
+    ensures stripped { IfOk result (λ n. Stripped (P.meaning policy.now) (P.blocks policy.now) plain.now (take n area.new)) }
 {
     limits(policy)?;
     let applet = Applet::read(plain)?;

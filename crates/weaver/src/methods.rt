@@ -97,14 +97,14 @@ fn put_code<P: Policy>(
     area: &mut [u8],
     at: usize,
 ) -> usize
-    requires limited { Limited (meaning p.now) (blocks p.now) }
-    requires sizes { HostSizes (meaning p.now) (blocks p.now) sizes.now }
+    requires limited { Limited (P.meaning p.now) (P.blocks p.now) }
+    requires sizes { HostSizes (P.meaning p.now) (P.blocks p.now) sizes.now }
     requires size { length code.now / 4 ≤ 4096 }
-    requires starts { (j : ℕ) → j ≤ length code.now / 4 → slice_index starts.now j ≡ start (meaning p.now).watched (λ k t. blocks p.now k t 0) (owns methods code.now) j }
-    requires short { length (woven_code (meaning p.now) (blocks p.now) methods code.now) ≤ 4096 }
-    requires room { at + 4 * length (woven_code (meaning p.now) (blocks p.now) methods code.now) ≤ length area.old }
-    ensures area { area.new ≡ put_at area.old at (write_code (woven_code (meaning p.now) (blocks p.now) methods code.now)) }
-    ensures behind { result ≡ at + 4 * length (woven_code (meaning p.now) (blocks p.now) methods code.now) }
+    requires starts { (j : ℕ) → j ≤ length code.now / 4 → slice_index starts.now j ≡ start (P.meaning p.now).watched (λ k t. P.blocks p.now k t 0) (owns methods code.now) j }
+    requires short { length (woven_code (P.meaning p.now) (P.blocks p.now) methods code.now) ≤ 4096 }
+    requires room { at + 4 * length (woven_code (P.meaning p.now) (P.blocks p.now) methods code.now) ≤ length area.old }
+    ensures area { area.new ≡ put_at area.old at (write_code (woven_code (P.meaning p.now) (P.blocks p.now) methods code.now)) }
+    ensures behind { result ≡ at + 4 * length (woven_code (P.meaning p.now) (P.blocks p.now) methods code.now) }
 {
     let count = code.len() / 4;
     let mut to = at;
@@ -125,13 +125,13 @@ pub(crate) fn put_method<P: Policy>(
     area: &mut [u8],
     at: usize,
 ) -> usize
-    requires limited { Limited (meaning p.now) (blocks p.now) }
-    requires sizes { HostSizes (meaning p.now) (blocks p.now) sizes.now }
+    requires limited { Limited (P.meaning p.now) (P.blocks p.now) }
+    requires sizes { HostSizes (P.meaning p.now) (P.blocks p.now) sizes.now }
     requires size { length code.now / 4 ≤ 4096 }
-    requires short { length (woven_code (meaning p.now) (blocks p.now) methods code.now) ≤ 4096 }
-    requires room { at + (3 + 4 * length (woven_code (meaning p.now) (blocks p.now) methods code.now)) ≤ length area.old }
-    ensures area { area.new ≡ put_at area.old at (field 4 (write_code (woven_code (meaning p.now) (blocks p.now) methods code.now))) }
-    ensures behind { result ≡ at + (3 + 4 * length (woven_code (meaning p.now) (blocks p.now) methods code.now)) }
+    requires short { length (woven_code (P.meaning p.now) (P.blocks p.now) methods code.now) ≤ 4096 }
+    requires room { at + (3 + 4 * length (woven_code (P.meaning p.now) (P.blocks p.now) methods code.now)) ≤ length area.old }
+    ensures area { area.new ≡ put_at area.old at (field 4 (write_code (woven_code (P.meaning p.now) (P.blocks p.now) methods code.now))) }
+    ensures behind { result ≡ at + (3 + 4 * length (woven_code (P.meaning p.now) (P.blocks p.now) methods code.now)) }
 {
     let size = fill_starts(code, methods, sizes, starts);
     let at = put_head(area, at, 4, 4 * size);

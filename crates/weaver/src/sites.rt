@@ -14,7 +14,7 @@ use policy::Policy;
 // Whether a policy watches a call.
 fn watched<P: Policy>(p: &P, call: u8) -> bool
     requires { call < 64 }
-    ensures { result ≡ (meaning p.now).watched call }
+    ensures { result ≡ (P.meaning p.now).watched call }
 {
     match p.watches(call) {
         Ok(w) => w,
@@ -25,8 +25,8 @@ fn watched<P: Policy>(p: &P, call: u8) -> bool
 // How many instructions stand for a HOST of a call: a site, or the HOST itself.
 fn host_size<P: Policy>(p: &P, call: u8) -> u16
     requires call { call < 64 }
-    requires limited { Limited (meaning p.now) (blocks p.now) }
-    ensures { result ≡ host_size (meaning p.now) (blocks p.now) call }
+    requires limited { Limited (P.meaning p.now) (P.blocks p.now) }
+    ensures { result ≡ host_size (P.meaning p.now) (P.blocks p.now) call }
 {
     if !watched(p, call) {
         return 1;
@@ -39,8 +39,8 @@ fn host_size<P: Policy>(p: &P, call: u8) -> u16
 
 // The same for each call.
 pub(crate) fn host_sizes<P: Policy>(p: &P) -> [u16; 64]
-    requires { Limited (meaning p.now) (blocks p.now) }
-    ensures { HostSizes (meaning p.now) (blocks p.now) result }
+    requires { Limited (P.meaning p.now) (P.blocks p.now) }
+    ensures { HostSizes (P.meaning p.now) (P.blocks p.now) result }
 {
     let mut sizes = [0; 64];
     for call in 0..64u8 {
@@ -62,10 +62,10 @@ fn put(area: &mut [u8], at: usize, instr: Instr) -> usize
 // Writes a block at a place of the area, and answers the place behind it.
 fn put_block<P: Policy>(p: &P, call: u8, moment: Moment, area: &mut [u8], at: usize) -> usize
     requires call { call < 64 }
-    requires limited { Limited (meaning p.now) (blocks p.now) }
-    requires room { at + 4 * length (blocks p.now call moment 0) ≤ length area.old }
-    ensures area { area.new ≡ put_at area.old at (block_bytes (blocks p.now call moment 0)) }
-    ensures behind { result ≡ at + 4 * length (blocks p.now call moment 0) }
+    requires limited { Limited (P.meaning p.now) (P.blocks p.now) }
+    requires room { at + 4 * length (P.blocks p.now call moment 0) ≤ length area.old }
+    ensures area { area.new ≡ put_at area.old at (block_bytes (P.blocks p.now call moment 0)) }
+    ensures behind { result ≡ at + 4 * length (P.blocks p.now call moment 0) }
 {
     let _ = p.write_block(call, moment, 0, &mut area[at..]);
     at + 4 * p.block_len(call, moment) as usize
@@ -82,11 +82,11 @@ fn put_site<P: Policy>(
     at: usize,
 ) -> usize
     requires call { call < 64 }
-    requires limited { Limited (meaning p.now) (blocks p.now) }
+    requires limited { Limited (P.meaning p.now) (P.blocks p.now) }
     requires index { index ≤ 4096 }
-    requires room { at + 4 * (behind (λ k t. blocks p.now k t 0) call + 1) ≤ length area.old }
-    ensures area { area.new ≡ put_at area.old at (write_code (site (λ k t. blocks p.now k t 0) index call raised)) }
-    ensures behind { result ≡ at + 4 * (behind (λ k t. blocks p.now k t 0) call + 1) }
+    requires room { at + 4 * (behind (λ k t. P.blocks p.now k t 0) call + 1) ≤ length area.old }
+    ensures area { area.new ≡ put_at area.old at (write_code (site (λ k t. P.blocks p.now k t 0) index call raised)) }
+    ensures behind { result ≡ at + 4 * (behind (λ k t. P.blocks p.now k t 0) call + 1) }
 {
     let before = p.block_len(call, Moment::Before);
     let after = p.block_len(call, Moment::After);
@@ -117,12 +117,12 @@ pub(crate) fn put_piece<P: Policy>(
     at: usize,
 ) -> usize
     requires call { Called c }
-    requires limited { Limited (meaning p.now) (blocks p.now) }
-    requires sizes { HostSizes (meaning p.now) (blocks p.now) sizes.now }
+    requires limited { Limited (P.meaning p.now) (P.blocks p.now) }
+    requires sizes { HostSizes (P.meaning p.now) (P.blocks p.now) sizes.now }
     requires index { index ≤ 4096 }
-    requires room { at + 4 * size (meaning p.now).watched (λ k t. blocks p.now k t 0) c ≤ length area.old }
-    ensures area { area.new ≡ put_at area.old at (write_code (piece (λ k t. blocks p.now k t 0) index c (watched_call (meaning p.now).watched c))) }
-    ensures behind { result ≡ at + 4 * size (meaning p.now).watched (λ k t. blocks p.now k t 0) c }
+    requires room { at + 4 * size (P.meaning p.now).watched (λ k t. P.blocks p.now k t 0) c ≤ length area.old }
+    ensures area { area.new ≡ put_at area.old at (write_code (piece (λ k t. P.blocks p.now k t 0) index c (watched_call (P.meaning p.now).watched c))) }
+    ensures behind { result ≡ at + 4 * size (P.meaning p.now).watched (λ k t. P.blocks p.now k t 0) c }
 {
     if let Own::Host(call, raised) = c {
         // a site has more than one instruction

@@ -6,7 +6,7 @@ use Rattle.applet.proofs.reader.judge.Goals as goal
 
 pub returns-in-Some : goal.returns-in-Some
 returns-in-Some c =
-    c.judge-by.ensures ∙
+    c.judge_by.ensures ∙
     judged_row c.args.methods (quad_at c.args.code.now (4 * c.args.index)) c.args.size c.args.index c.args.place (row c.in-Some.e) c.in-Some.ensures
 
 pub returns-in-None : goal.returns-in-None

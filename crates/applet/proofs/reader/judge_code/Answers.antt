@@ -12,12 +12,12 @@ sized n p xs = ap (λ s. judged n s 0 p (quads xs)) (sym (length_quads xs))
 pub loop-index-init : goal.loop-index-init
 loop-index-init c = code_starts c.args.methods (length c.args.code.now / 4) c.args.place c.args.code.now 0 refl
 
-pub returns-in-err-judge : goal.returns-in-err-judge
-returns-in-err-judge c =
-    let p = err_from_is_err_and c.from-residual.result c.from-residual.ensures.1 in
+pub returns-in_err-judge : goal.returns-in_err-judge
+returns-in_err-judge c =
+    let p = err_from_is_err_and c.from_residual.result c.from_residual.ensures.1 in
     let k = c.loop-index-test.true in
     rw (p.1, p.2)
-    (code_stops c.args.methods (length c.args.code.now / 4) c.args.place c.args.code.now c.loop-index.index _ (omega arith) (sym c.judge.ensures ∙ c.in-err-judge.was) c.loop-index.invariant ∙
+    (code_stops c.args.methods (length c.args.code.now / 4) c.args.place c.args.code.now c.loop-index.index _ (omega arith) (sym c.judge.ensures ∙ c.in_err-judge.was) c.loop-index.invariant ∙
     sized c.args.methods c.args.place c.args.code.now)
 
 pub loop-index-preserved-then-passes : goal.loop-index-preserved-then-passes
@@ -26,7 +26,7 @@ loop-index-preserved-then-passes c =
     (c.passes.ensures c.args.methods (c.args.place + 4 * c.loop-index.index) c.requires.quick c.if-passes.true) c.loop-index.invariant
 
 pub loop-index-preserved : goal.loop-index-preserved
-loop-index-preserved c = code_more c.args.methods (length c.args.code.now / 4) c.args.place c.args.code.now c.loop-index.index (omega arith) (sym c.judge.ensures ∙ c.in-ok-judge.was) c.loop-index.invariant
+loop-index-preserved c = code_more c.args.methods (length c.args.code.now / 4) c.args.place c.args.code.now c.loop-index.index (omega arith) (sym c.judge.ensures ∙ c.in_ok-judge.was) c.loop-index.invariant
 
 pub returns : goal.returns
 returns c =

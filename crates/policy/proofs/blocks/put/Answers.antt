@@ -9,6 +9,6 @@ returns c =
     let room : c.args.at + 4 ≤ length c.args.area.now = omega arith in
     let t = le-leb (c.args.at + 4) (length c.args.area.now) room in
     record {
-      area = rw t (part_put c.args.area.now _ (block_bytes (c.args.test ∷ [])) c.args.at 4 (c.copy-from-slice.ensures.after ∙ c.encode.ensures.value) refl);
+      area = rw t (part_put c.args.area.now _ (block_bytes (c.args.test ∷ [])) c.args.at 4 (c.copy_from_slice.ensures.after ∙ c.encode.ensures.value) refl);
       behind = rw t refl;
     }

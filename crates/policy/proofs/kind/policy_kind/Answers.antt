@@ -9,7 +9,7 @@ returns-then-file-eq0 c =
     let z = get_or_past f 0 0 (omega arith) in
     record { value = kind_neither f (λ e. omega arith) (λ e. omega arith); read = read_neither f (λ e. omega arith) (λ e. omega arith) }
 
-pub returns-in-default : goal.returns-in-default
-returns-in-default c =
+pub returns-in_default : goal.returns-in_default
+returns-in_default c =
     let f = c.args.file.now in
     record { value = kind_neither f (λ e. omega arith) (λ e. omega arith); read = read_neither f (λ e. omega arith) (λ e. omega arith) }

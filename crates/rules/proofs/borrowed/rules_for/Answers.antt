@@ -17,7 +17,7 @@ returns-then-call-gt63 c =
 pub slice-bounds-result-count-2 : goal.slice-bounds-result-count-2
 slice-bounds-result-count-2 c =
     let f = c.args.file.now in
-    let b = All-from_get_or (λ b. b < 256) f 0 (λ i h. (c.type-inv.file i).fits) in
+    let b = All-from_get_or (λ b. b < 256) f 0 (λ i h. (c.type_inv.file i).fits) in
     let l : c.args.call < 64 = (let g = c.if-call-gt63.false in omega arith) in
     (file_span f c.requires.reads b c.args.index.now c.args.call c.args.moment _ _ _ c.requires.firsts c.requires.lasts l c.span-span.ensures c.from-from.ensures c.from-to.ensures).order
 
@@ -27,7 +27,7 @@ slice-bounds-result-start-2 c = let o = slice-bounds-result-count-2 c in omega a
 pub slice-bounds-result-end-2 : goal.slice-bounds-result-end-2
 slice-bounds-result-end-2 c =
     let f = c.args.file.now in
-    let b = All-from_get_or (λ b. b < 256) f 0 (λ i h. (c.type-inv.file i).fits) in
+    let b = All-from_get_or (λ b. b < 256) f 0 (λ i h. (c.type_inv.file i).fits) in
     let l : c.args.call < 64 = (let g = c.if-call-gt63.false in omega arith) in
     let i = (file_span f c.requires.reads b c.args.index.now c.args.call c.args.moment _ _ _ c.requires.firsts c.requires.lasts l c.span-span.ensures c.from-from.ensures c.from-to.ensures).inside in
     omega arith
@@ -35,6 +35,6 @@ slice-bounds-result-end-2 c =
 pub returns : goal.returns
 returns c =
     let f = c.args.file.now in
-    let b = All-from_get_or (λ b. b < 256) f 0 (λ i h. (c.type-inv.file i).fits) in
+    let b = All-from_get_or (λ b. b < 256) f 0 (λ i h. (c.type_inv.file i).fits) in
     let l : c.args.call < 64 = (let g = c.if-call-gt63.false in omega arith) in
     (file_span f c.requires.reads b c.args.index.now c.args.call c.args.moment _ _ _ c.requires.firsts c.requires.lasts l c.span-span.ensures c.from-from.ensures c.from-to.ensures).written

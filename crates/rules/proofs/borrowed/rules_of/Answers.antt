@@ -20,6 +20,6 @@ returns c =
     let d = take_rest f (8 + 4 * c.from-n.result) ∙ ap (λ k. drop k f) e in
     let s = ap length d ∙ length-drop (8 + 4 * length (rules_in f).starts) f in
     record {
-      value = (d ∙ l.rules (All-from_get_or (λ b. b < 256) f 0 (λ i h. (c.type-inv.file i).fits)), (rules_valid_in f c.requires).rules);
+      value = (d ∙ l.rules (All-from_get_or (λ b. b < 256) f 0 (λ i h. (c.type_inv.file i).fits)), (rules_valid_in f c.requires).rules);
       size = omega arith;
     }

@@ -40,7 +40,7 @@ there : (c : In-default) → (rs : List Rule) × (rules_from c.in-ok-o.o.cells c
 there c =
     let o = c.in-ok-o.o in
     rules_good o.cells o.rules (drop o.rules c.args.file.now)
-    (All-drop (λ b. b < 256) o.rules c.args.file.now (All-from_get_or (λ b. b < 256) c.args.file.now 0 (λ i l. (c.type-inv.file i).fits)))
+    (All-drop (λ b. b < 256) o.rules c.args.file.now (All-from_get_or (λ b. b < 256) c.args.file.now 0 (λ i l. (c.type_inv.file i).fits)))
     (ap Ok (sym c.in-default.is) ∙ c.in-ok-bad.ensures)
 
 pub returns-then-not-short-blocks : goal.returns-then-not-short-blocks

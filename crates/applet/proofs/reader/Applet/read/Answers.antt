@@ -15,7 +15,7 @@ returns-in-Ok c =
     record {
       value = v;
       file = refl;
-      kept = record { valid = k.1; written = k.0 (bytes_from f (λ i. (c.type-inv.file i).fits)) };
+      kept = record { valid = k.1; written = k.0 (bytes_from f (λ i. (c.type_inv.file i).fits)) };
       places = λ m h. staged_stands f (found c.in-Ok.layout) (sym e) m (subst (λ (k : ℕ). m < k) (length-map _ _) h);
     }
 

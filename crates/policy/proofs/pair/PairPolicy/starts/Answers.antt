@@ -5,11 +5,11 @@ use Rattle.policy.proofs.Asked.{starts_refused, starts_allowed}
 use Rattle.policy.proofs.Pairs.{pair_starts}
 use Rattle.policy.proofs.pair.PairPolicy.starts.Goals as goal
 
-pub returns-in-err-may-start : goal.returns-in-err-may-start
-returns-in-err-may-start g c =
-    let r = err_from_is_err_and c.from-residual.result c.from-residual.ensures.1 in
+pub returns-in_err-may_start : goal.returns-in_err-may_start
+returns-in_err-may_start g c =
+    let r = err_from_is_err_and c.from_residual.result c.from_residual.ensures.1 in
     let A = pair_automaton (g.P.Policy.meaning c.args.self.now.first) (g.Q.Policy.meaning c.args.self.now.second) in
-    let h = starts_refused A c.args.row.now c.in-err-may-start.field-0.0 (rw c.width.ensures at c.in-err-may-start.ensures) in
+    let h = starts_refused A c.args.row.now c.in_err-may_start.field-0.0 (rw c.width.ensures at c.in_err-may_start.ensures) in
     record { answer = r.1 ∙ ap Err r.2 ∙ h.0; row = h.1 }
 
 pub returns : goal.returns
@@ -17,7 +17,7 @@ returns g c =
     let A = g.P.Policy.meaning c.args.self.now.first in
     let C = g.Q.Policy.meaning c.args.self.now.second in
     let row = c.args.row.now in
-    let h = starts_allowed (pair_automaton A C) row (rw c.width.ensures at c.in-ok-may-start.ensures) in
+    let h = starts_allowed (pair_automaton A C) row (rw c.width.ensures at c.in_ok-may_start.ensures) in
     let n : A.width + C.width ≤ 32 = h.0.narrow in
     let a : c.from-a.result ≡ A.width = omega arith in
     record {

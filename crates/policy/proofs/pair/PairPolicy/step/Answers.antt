@@ -7,12 +7,12 @@ use Rattle.policy.proofs.Asked.{step_refused, step_allowed}
 use Rattle.policy.proofs.Pairs.{refused_is}
 use Rattle.policy.proofs.pair.PairPolicy.step.Goals as goal
 
-pub returns-in-err-may-step : goal.returns-in-err-may-step
-returns-in-err-may-step g c =
-    let r = err_from_is_err_and c.from-residual.result c.from-residual.ensures.1 in
+pub returns-in_err-may_step : goal.returns-in_err-may_step
+returns-in_err-may_step g c =
+    let r = err_from_is_err_and c.from_residual.result c.from_residual.ensures.1 in
     let A = pair_automaton (g.P.Policy.meaning c.args.self.now.first) (g.Q.Policy.meaning c.args.self.now.second) in
     let e : Event = record { moment = c.args.moment; call = c.args.call; args = c.args.args.now; answer = c.args.answer } in
-    let h = step_refused A e c.args.row.now c.in-err-may-step.field-0.0 (rw c.width-w.ensures at c.in-err-may-step.ensures) in
+    let h = step_refused A e c.args.row.now c.in_err-may_step.field-0.0 (rw c.width-w.ensures at c.in_err-may_step.ensures) in
     record { answer = r.1 ∙ ap Err r.2 ∙ h.0; row = h.1 }
 
 pub returns-in-Taken : goal.returns-in-Taken
@@ -21,8 +21,8 @@ returns-in-Taken g c =
     let z : to_z w32 (of_z w32 c.args.answer) ≡ c.args.answer = to_z-of_z w32 c.args.answer c.ranges.answer in
     let e : Event = record { moment = c.args.moment; call = c.args.call; args = c.args.args.now; answer = c.args.answer } in
     let row = c.args.row.now in
-    let new = c.step-both.new.cells in
-    let h = step_allowed A e row (rw c.width-w.ensures at c.in-ok-may-step.ensures) in
+    let new = c.step_both.new.cells in
+    let h = step_allowed A e row (rw c.width-w.ensures at c.in_ok-may_step.ensures) in
     let w : c.from-w.result ≡ A.width = c.from-w.ensures ∙ c.width-w.ensures ∙ h.roomy.told in
     let d = take A.width new in
     let n = c.from-w.result in
@@ -37,11 +37,11 @@ returns-in-Refused g c =
     let z : to_z w32 (of_z w32 c.args.answer) ≡ c.args.answer = to_z-of_z w32 c.args.answer c.ranges.answer in
     let e : Event = record { moment = c.args.moment; call = c.args.call; args = c.args.args.now; answer = c.args.answer } in
     let row = c.args.row.now in
-    let h = step_allowed A e row (rw c.width-w.ensures at c.in-ok-may-step.ensures) in
+    let h = step_allowed A e row (rw c.width-w.ensures at c.in_ok-may_step.ensures) in
     let w : c.from-w.result ≡ A.width = c.from-w.ensures ∙ c.width-w.ensures ∙ h.roomy.told in
     let n = c.from-w.result in
     let a = c.from-a.result in
     let k : A.step e (take n row) ≡ None = refused_is _ (rw z at c.in-Refused.ensures.answer) in
     let q : A.step e (take A.width row) ≡ None = ap (λ m. A.step e (take m row)) (sym w) ∙ k in
-    let r = c.put-back.ensures ∙ ap₂ ◌++◌ c.copied-cells.ensures (c.in-Refused.ensures.kept refl) ∙ take-append-drop a row in
+    let r = c.put_back.ensures ∙ ap₂ ◌++◌ c.copied-cells.ensures (c.in-Refused.ensures.kept refl) ∙ take-append-drop a row in
     record { answer = h.answer None q; row = r ∙ h.after None q }
