@@ -7,8 +7,8 @@ use Rattle.machine.proofs.fresh.fill.Goals as goal
 
 pub loop-i-preserved : goal.loop-i-preserved
 loop-i-preserved c =
-    let f : SFits w32 c.start-of.result = search rules in
-    let e = to_z-of_z w32 c.start-of.result f ∙ c.start-of.ensures in (
+    let f : SFits w32 c.start_of.result = search rules in
+    let e = to_z-of_z w32 c.start_of.result f ∙ c.start_of.ensures in (
       simp length-set c.loop-i.invariant.0,
       filled (meant c.args.applet.now).starts c.args.cells.now c.loop-i.cells c.loop-i.i _ c.loop-i.invariant.1 e (omega arith) (omega arith),
     )

@@ -6,8 +6,8 @@ use Rattle.machine.proofs.fresh.start_in.Goals as goal
 pub loop-i-preserved : goal.loop-i-preserved
 loop-i-preserved c = (
   simp length-set c.loop-i.invariant.0,
-  one_more c.loop-i.threads c.loop-i.i c.thread-in.result (λ (k : ℕ). new_thread (get_or c.args.entries.now k 0)) (omega arith) c.loop-i.invariant.1
-      c.thread-in.ensures,
+  one_more c.loop-i.threads c.loop-i.i c.thread_in.result (λ (k : ℕ). new_thread (get_or c.args.entries.now k 0)) (omega arith) c.loop-i.invariant.1
+      c.thread_in.ensures,
 )
 
 pub returns : goal.returns

@@ -10,4 +10,4 @@ pub returns : goal.returns
 returns c =
     let f = c.args.file.now in
     let b : Bytes f = All-from_get_or (λ b. b < 256) f 0 (λ i h. (c.type_inv.file i).fits) in
-    c.has-rule.ensures ∙ any_placed c.args.index.now (rules_in f).rules c.args.call (rules_place f) (length f) c.requires.firsts c.requires.known (file_end f c.requires.reads b)
+    c.has_rule.ensures ∙ any_placed c.args.index.now (rules_in f).rules c.args.call (rules_place f) (length f) c.requires.firsts c.requires.known (file_end f c.requires.reads b)

@@ -14,18 +14,18 @@ returns-then-call-gt63 c =
       sym (none_past (length (rules_in f).starts) (rules_in f).rules c.args.call c.args.moment (rules_valid_in f c.requires.reads).rules c.if-call-gt63.true),
     )
 
-pub slice-bounds-result-count-2 : goal.slice-bounds-result-count-2
-slice-bounds-result-count-2 c =
+pub slice_bounds-result-count-2 : goal.slice_bounds-result-count-2
+slice_bounds-result-count-2 c =
     let f = c.args.file.now in
     let b = All-from_get_or (λ b. b < 256) f 0 (λ i h. (c.type_inv.file i).fits) in
     let l : c.args.call < 64 = (let g = c.if-call-gt63.false in omega arith) in
     (file_span f c.requires.reads b c.args.index.now c.args.call c.args.moment _ _ _ c.requires.firsts c.requires.lasts l c.span-span.ensures c.from-from.ensures c.from-to.ensures).order
 
-pub slice-bounds-result-start-2 : goal.slice-bounds-result-start-2
-slice-bounds-result-start-2 c = let o = slice-bounds-result-count-2 c in omega arith
+pub slice_bounds-result-start-2 : goal.slice_bounds-result-start-2
+slice_bounds-result-start-2 c = let o = slice_bounds-result-count-2 c in omega arith
 
-pub slice-bounds-result-end-2 : goal.slice-bounds-result-end-2
-slice-bounds-result-end-2 c =
+pub slice_bounds-result-end-2 : goal.slice_bounds-result-end-2
+slice_bounds-result-end-2 c =
     let f = c.args.file.now in
     let b = All-from_get_or (λ b. b < 256) f 0 (λ i h. (c.type_inv.file i).fits) in
     let l : c.args.call < 64 = (let g = c.if-call-gt63.false in omega arith) in

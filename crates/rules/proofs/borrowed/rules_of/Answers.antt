@@ -5,18 +5,18 @@ use Rattle.model.specs.Rules.{rules_in}
 use Rattle.model.proofs.RuleFiles.{rules_laid, rules_valid_in}
 use Rattle.rules.proofs.borrowed.rules_of.Goals as goal
 
-pub slice-bounds-result-count : goal.slice-bounds-result-count
-slice-bounds-result-count c = let l = (rules_laid c.args.file.now c.requires).long in let v = c.cells-of.ensures.value in omega arith
+pub slice_bounds-result-count : goal.slice_bounds-result-count
+slice_bounds-result-count c = let l = (rules_laid c.args.file.now c.requires).long in let v = c.cells_of.ensures.value in omega arith
 
-pub slice-bounds-result-start : goal.slice-bounds-result-start
-slice-bounds-result-start c = let l = (rules_laid c.args.file.now c.requires).long in let v = c.cells-of.ensures.value in omega arith
+pub slice_bounds-result-start : goal.slice_bounds-result-start
+slice_bounds-result-start c = let l = (rules_laid c.args.file.now c.requires).long in let v = c.cells_of.ensures.value in omega arith
 
 pub returns : goal.returns
 returns c =
     let f = c.args.file.now in
     let l = rules_laid f c.requires in
     let g = l.long in
-    let e : 8 + 4 * c.from-n.result ≡ 8 + 4 * length (rules_in f).starts = ap (λ (k : ℕ). 8 + 4 * k) (c.from-n.ensures ∙ c.cells-of.ensures.value) in
+    let e : 8 + 4 * c.from-n.result ≡ 8 + 4 * length (rules_in f).starts = ap (λ (k : ℕ). 8 + 4 * k) (c.from-n.ensures ∙ c.cells_of.ensures.value) in
     let d = take_rest f (8 + 4 * c.from-n.result) ∙ ap (λ k. drop k f) e in
     let s = ap length d ∙ length-drop (8 + 4 * length (rules_in f).starts) f in
     record {

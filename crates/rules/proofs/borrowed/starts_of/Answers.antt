@@ -4,14 +4,14 @@ use Rattle.model.specs.Rules.{rules_in}
 use Rattle.model.proofs.RuleFiles.{rules_laid}
 use Rattle.rules.proofs.borrowed.starts_of.Goals as goal
 
-pub slice-bounds-result-end : goal.slice-bounds-result-end
-slice-bounds-result-end c = let l = (rules_laid c.args.file.now c.requires).long in let v = c.cells-of.ensures.value in omega arith
+pub slice_bounds-result-end : goal.slice_bounds-result-end
+slice_bounds-result-end c = let l = (rules_laid c.args.file.now c.requires).long in let v = c.cells_of.ensures.value in omega arith
 
 pub returns : goal.returns
 returns c =
     let f = c.args.file.now in
     let l = rules_laid f c.requires in
     let g = l.long in
-    let v = c.cells-of.ensures.value in
+    let v = c.cells_of.ensures.value in
     let e : 8 + 4 * c.from-n.result - 8 ≡ 4 * length (rules_in f).starts = omega arith in
     record { value = ap (λ k. map signed_of (quads (take k (drop 8 f)))) e ∙ l.starts; size = simp (length-take, length-drop) (omega arith) }

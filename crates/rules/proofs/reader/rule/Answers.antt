@@ -15,18 +15,18 @@ returns-then-not-headed c =
     sym (rule_unheaded c.args.cells c.args.at c.args.holder.now
     (ap headed (sym (take_rest c.args.holder.now (c.args.at + 3))) ∙ sym c.if-not-headed.ensures))
 
-pub returns-in-err-g : goal.returns-in-err-g
-returns-in-err-g c =
-    let p = err_from_is_err_and c.from-residual.result c.from-residual.ensures.1 in
+pub returns-in_err-g : goal.returns-in_err-g
+returns-in_err-g c =
+    let p = err_from_is_err_and c.from_residual.result c.from_residual.ensures.1 in
     rw (p.1, p.2)
     (sym (rule_unguarded c.args.cells c.args.at c.args.holder.now
-    (ap headed (sym (take_rest c.args.holder.now (c.args.at + 3))) ∙ sym c.if-not-headed.ensures) c.in-err-g.field-0.0 c.in-err-g.ensures))
+    (ap headed (sym (take_rest c.args.holder.now (c.args.at + 3))) ∙ sym c.if-not-headed.ensures) c.in_err-g.field-0.0 c.in_err-g.ensures))
 
 pub returns-then-not-triples : goal.returns-then-not-triples
 returns-then-not-triples c =
     sym (rule_missized c.args.cells c.args.at c.args.holder.now
     (ap headed (sym (take_rest c.args.holder.now (c.args.at + 3))) ∙ sym c.if-not-headed.ensures) _ _
-    (here c.args.holder.now 68 (c.args.at + 5) c.in-ok-g.g.contents.now c.in-ok-g.g.next c.in-ok-g.ensures)
+    (here c.args.holder.now 68 (c.args.at + 5) c.in_ok-g.g.contents.now c.in_ok-g.g.next c.in_ok-g.ensures)
     (sym c.if-not-triples.ensures))
 
 -- what is found behind the guard
@@ -37,18 +37,18 @@ rest c =
     let a : arguments (moment_of (get_or (drop (c.args.at + 3) c.args.holder.now) 1 0)) ≡ c.arguments-a.result =
     sym (c.arguments-a.ensures ∙ ap arguments (c.moment.ensures ∙ ap (λ xs. moment_of (get_or xs 1 0)) t)) in
     let w = rule_rest c.args.cells c.args.at c.args.holder.now (ap headed (sym t) ∙ sym c.if-not-headed.ensures) _ _
-    (here c.args.holder.now 68 (c.args.at + 5) c.in-ok-g.g.contents.now c.in-ok-g.g.next c.in-ok-g.ensures)
+    (here c.args.holder.now 68 (c.args.at + 5) c.in_ok-g.g.contents.now c.in_ok-g.g.next c.in_ok-g.ensures)
     (sym c.if-not-triples.ensures) in
     w
-    ∙ ap (λ k. behind_guard (bad_expr c.args.cells k (c.args.at + 5) c.in-ok-g.g.contents.now)
-    (faulty (bad_update c.args.cells k) None (fields 8 69 (update_field c.args.cells) c.in-ok-g.g.next (drop c.in-ok-g.g.next c.args.holder.now)))) a
+    ∙ ap (λ k. behind_guard (bad_expr c.args.cells k (c.args.at + 5) c.in_ok-g.g.contents.now)
+    (faulty (bad_update c.args.cells k) None (fields 8 69 (update_field c.args.cells) c.in_ok-g.g.next (drop c.in_ok-g.g.next c.args.holder.now)))) a
     ∙ ap₂ behind_guard (sym c.fault-bad.ensures) (sym c.updates.ensures)
 
-pub returns-in-err-more : goal.returns-in-err-more
-returns-in-err-more c =
-    let p = err_from_is_err_and c.from-residual-in-err-more.result c.from-residual-in-err-more.ensures.1 in
-    rw (p.1, p.2) (sym (rest (goal.at.returns-in-err-more c).After-updates ∙ ap (behind_guard c.fault-bad.result) c.in-err-more.was))
+pub returns-in_err-more : goal.returns-in_err-more
+returns-in_err-more c =
+    let p = err_from_is_err_and c.from_residual-in_err-more.result c.from_residual-in_err-more.ensures.1 in
+    rw (p.1, p.2) (sym (rest (goal.at.returns-in_err-more c).After-updates ∙ ap (behind_guard c.fault-bad.result) c.in_err-more.was))
 
 pub returns : goal.returns
 returns c =
-    ap Ok c.earlier.ensures ∙ sym (rest (goal.at.returns c).After-updates ∙ ap (behind_guard c.fault-bad.result) c.in-ok-more.was)
+    ap Ok c.earlier.ensures ∙ sym (rest (goal.at.returns c).After-updates ∙ ap (behind_guard c.fault-bad.result) c.in_ok-more.was)

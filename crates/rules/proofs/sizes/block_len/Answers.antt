@@ -10,19 +10,19 @@ use Rattle.rules.proofs.sizes.block_len.Goals.{then-is-for, else-is-for}
 
 pub loop-rest-preserved : goal.loop-rest-preserved
 loop-rest-preserved c =
-    let k = c.first-rule-r.ensures.less in
+    let k = c.first_rule-r.ensures.less in
     let h = c.loop-rest.invariant.0 in
-    elim c.if-is-for.branch [
+    elim c.if-is_for.branch [
       | then-is-for w ↦
-          let s = w.updates-len.ensures.small in
+          let s = w.updates_len.ensures.small in
           let z = w.len-is in (
             omega arith,
             λ n rs v.
                 let i = c.loop-rest.invariant.1 n rs v in
-                let x = next_rule n c.loop-rest.rest.now i.0 (rule_view c.first-rule-r.result) i.1 (omega arith) c.first-rule-r.ensures.parts in
+                let x = next_rule n c.loop-rest.rest.now i.0 (rule_view c.first_rule-r.result) i.1 (omega arith) c.first_rule-r.ensures.parts in
                 let e = expr_size 0 _ x.first.guard x.guard in
-                let u = w.updates-len.ensures.value n (arguments x.first.moment) x.first.updates x.updates in
-                let m = ap₂ (λ a b. eqb a c.args.call && same_moment b c.args.moment) (sym x.call) (sym x.moment) ∙ sym w.if-is-for.ensures in
+                let u = w.updates_len.ensures.value n (arguments x.first.moment) x.first.updates x.updates in
+                let m = ap₂ (λ a b. eqb a c.args.call && same_moment b c.args.moment) (sym x.call) (sym x.moment) ∙ sym w.if-is_for.ensures in
                 let l = ap (λ vs. rules_size (rules_of vs c.args.call c.args.moment)) x.all ∙ size_for c.args.call c.args.moment x.first x.more m in
                 let q = i.2 in
                 (x.more, x.written, omega arith),
@@ -32,8 +32,8 @@ loop-rest-preserved c =
             omega arith,
             λ n rs v.
                 let i = c.loop-rest.invariant.1 n rs v in
-                let x = next_rule n c.loop-rest.rest.now i.0 (rule_view c.first-rule-r.result) i.1 (omega arith) c.first-rule-r.ensures.parts in
-                let m = ap₂ (λ a b. eqb a c.args.call && same_moment b c.args.moment) (sym x.call) (sym x.moment) ∙ sym w.if-is-for.ensures in
+                let x = next_rule n c.loop-rest.rest.now i.0 (rule_view c.first_rule-r.result) i.1 (omega arith) c.first_rule-r.ensures.parts in
+                let m = ap₂ (λ a b. eqb a c.args.call && same_moment b c.args.moment) (sym x.call) (sym x.moment) ∙ sym w.if-is_for.ensures in
                 let l = ap (λ vs. rules_size (rules_of vs c.args.call c.args.moment)) x.all ∙ size_other c.args.call c.args.moment x.first x.more m in
                 let q = i.2 in
                 (x.more, x.written, omega arith),

@@ -13,19 +13,19 @@ short rs r = leb (length (block_of 0 (rules_of rs r.call r.moment))) 1000
 pub loop-rest-init : goal.loop-rest-init
 loop-rest-init c n rs v = (rs, v, refl)
 
-pub returns-then-block-len-gt1000 : goal.returns-then-block-len-gt1000
-returns-then-block-len-gt1000 c n rs v =
+pub returns-then-block_len-gt1000 : goal.returns-then-block_len-gt1000
+returns-then-block_len-gt1000 c n rs v =
     let i = c.loop-rest.invariant n rs v in
-    let x = next_rule n c.loop-rest.rest.now i.0 (rule_view c.first-rule-r.result) i.1 (omega arith) c.first-rule-r.ensures.parts in
-    let b = c.block-len.ensures n rs v ∙ ap₂ (λ k t. length (block_of 0 (rules_of rs k t))) x.call x.moment in
+    let x = next_rule n c.loop-rest.rest.now i.0 (rule_view c.first_rule-r.result) i.1 (omega arith) c.first_rule-r.ensures.parts in
+    let b = c.block_len.ensures n rs v ∙ ap₂ (λ k t. length (block_of 0 (rules_of rs k t))) x.call x.moment in
     let t = lt-leb (length (block_of 0 (rules_of rs x.first.call x.first.moment))) 1000 (omega arith) in
     sym (ap (λ t. t && every (short rs) x.more) t) ∙ sym (ap (every (short rs)) x.all) ∙ i.2
 
 pub loop-rest-preserved : goal.loop-rest-preserved
 loop-rest-preserved c n rs v =
     let i = c.loop-rest.invariant n rs v in
-    let x = next_rule n c.loop-rest.rest.now i.0 (rule_view c.first-rule-r.result) i.1 (omega arith) c.first-rule-r.ensures.parts in
-    let b = c.block-len.ensures n rs v ∙ ap₂ (λ k t. length (block_of 0 (rules_of rs k t))) x.call x.moment in
+    let x = next_rule n c.loop-rest.rest.now i.0 (rule_view c.first_rule-r.result) i.1 (omega arith) c.first_rule-r.ensures.parts in
+    let b = c.block_len.ensures n rs v ∙ ap₂ (λ k t. length (block_of 0 (rules_of rs k t))) x.call x.moment in
     let t = le-leb (length (block_of 0 (rules_of rs x.first.call x.first.moment))) 1000 (omega arith) in
     (x.more, x.written, sym (ap (λ t. t && every (short rs) x.more) t) ∙ sym (ap (every (short rs)) x.all) ∙ i.2)
 

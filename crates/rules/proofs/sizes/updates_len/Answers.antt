@@ -10,12 +10,12 @@ loop-rest-init c = (omega arith, λ n a us w. (us, w, omega arith))
 
 pub loop-rest-preserved : goal.loop-rest-preserved
 loop-rest-preserved c =
-    let k = c.first-update-u.ensures.less in
+    let k = c.first_update-u.ensures.less in
     let h = c.loop-rest.invariant.0 in (
       omega arith,
       λ n a us w.
           let i = c.loop-rest.invariant.1 n a us w in
-          let x = next_update n a c.loop-rest.rest.now i.0 (update_view c.first-update-u.result) i.1 (omega arith) c.first-update-u.ensures.parts in
+          let x = next_update n a c.loop-rest.rest.now i.0 (update_view c.first_update-u.result) i.1 (omega arith) c.first_update-u.ensures.parts in
           let e = expr_size 0 _ x.first.value x.value in
           let l = ap (λ vs. length (emit_updates 0 vs)) x.all ∙ length_updates 0 x.first x.more in
           let q = i.2 in

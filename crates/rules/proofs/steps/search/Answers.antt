@@ -17,15 +17,15 @@ loop-rest-init c rs v = (rs, v, refl)
 pub returns-then-not-equal : goal.returns-then-not-equal
 returns-then-not-equal c rs v =
     let i = c.loop-rest.invariant rs v in
-    let x = next_rule c.args.width c.loop-rest.rest.now i.0 (rule_view c.first-rule-r.result) i.1 (omega arith) c.first-rule-r.ensures.parts in
-    let m = ap₂ (λ a b. eqb a c.args.call && same_moment b c.args.moment) (sym x.call) (sym x.moment) ∙ sym c.if-is-for.ensures in
+    let x = next_rule c.args.width c.loop-rest.rest.now i.0 (rule_view c.first_rule-r.result) i.1 (omega arith) c.first_rule-r.ensures.parts in
+    let m = ap₂ (λ a b. eqb a c.args.call && same_moment b c.args.moment) (sym x.call) (sym x.moment) ∙ sym c.if-is_for.ensures in
     let t = ap arguments (same_moment_true x.first.moment c.args.moment (and_parts _ _ m).1) in
     let k = t ∙ sym c.arguments.ensures in
     let g : SFits w32 c.evaluate.result = search rules in
     let u = to_z-of_z w32 c.evaluate.result g ∙ c.evaluate.ensures x.first.guard x.guard (subst (λ j. ValidExpr c.args.width j x.first.guard) k x.valid.guard) in
     let z = ap (λ y. eqZ y (pos 0)) (sym u) ∙ sym c.if-not-equal.ensures in (
       x.first.updates,
-      subst (λ j. WrittenUpdates c.args.width j c.first-rule-r.result.updates.now x.first.updates) t x.updates,
+      subst (λ j. WrittenUpdates c.args.width j c.first_rule-r.result.updates.now x.first.updates) t x.updates,
       i.2 ∙ ap (going c.loop-rest.none c.args.args.now c.args.cells.now)
           (ap (λ vs. rules_of vs c.args.call c.args.moment) x.all ∙ for_it c.args.call c.args.moment x.first x.more m)
           ∙ acts c.args.args.now c.args.cells.now x.first (rules_of x.more c.args.call c.args.moment) c.loop-rest.none z,
@@ -34,10 +34,10 @@ returns-then-not-equal c rs v =
 pub loop-rest-preserved : goal.loop-rest-preserved
 loop-rest-preserved c rs v =
     let i = c.loop-rest.invariant rs v in
-    let x = next_rule c.args.width c.loop-rest.rest.now i.0 (rule_view c.first-rule-r.result) i.1 (omega arith) c.first-rule-r.ensures.parts in
-    elim c.if-is-for.branch [
+    let x = next_rule c.args.width c.loop-rest.rest.now i.0 (rule_view c.first_rule-r.result) i.1 (omega arith) c.first_rule-r.ensures.parts in
+    elim c.if-is_for.branch [
       | then-is-for+else-not-equal w ↦
-          let m = ap₂ (λ a b. eqb a c.args.call && same_moment b c.args.moment) (sym x.call) (sym x.moment) ∙ sym w.if-is-for.ensures in
+          let m = ap₂ (λ a b. eqb a c.args.call && same_moment b c.args.moment) (sym x.call) (sym x.moment) ∙ sym w.if-is_for.ensures in
           let k = ap arguments (same_moment_true x.first.moment c.args.moment (and_parts _ _ m).1) ∙ sym w.arguments.ensures in
           let g : SFits w32 w.evaluate.result = search rules in
           let u = to_z-of_z w32 w.evaluate.result g ∙ w.evaluate.ensures x.first.guard x.guard (subst (λ j. ValidExpr c.args.width j x.first.guard) k x.valid.guard) in
@@ -50,7 +50,7 @@ loop-rest-preserved c rs v =
                 ∙ ap (λ b. going b c.args.args.now c.args.cells.now (rules_of x.more c.args.call c.args.moment)) (sym w.none-is),
           )
       | else-is-for w ↦
-          let m = ap₂ (λ a b. eqb a c.args.call && same_moment b c.args.moment) (sym x.call) (sym x.moment) ∙ sym w.if-is-for.ensures in (
+          let m = ap₂ (λ a b. eqb a c.args.call && same_moment b c.args.moment) (sym x.call) (sym x.moment) ∙ sym w.if-is_for.ensures in (
             x.more,
             x.written,
             i.2 ∙ ap (going c.loop-rest.none c.args.args.now c.args.cells.now)

@@ -11,7 +11,7 @@ loop-rest-init c us w = (us, w, refl)
 pub loop-rest-preserved : goal.loop-rest-preserved
 loop-rest-preserved c us w =
     let i = c.loop-rest.invariant us w in
-    let x = next_update c.args.width c.args.readable c.loop-rest.rest.now i.0 (update_view c.first-update-u.result) i.1 (omega arith) c.first-update-u.ensures.parts in
+    let x = next_update c.args.width c.args.readable c.loop-rest.rest.now i.0 (update_view c.first_update-u.result) i.1 (omega arith) c.first_update-u.ensures.parts in
     let g : SFits w32 c.evaluate-v.result = search rules in
     let v = to_z-of_z w32 c.evaluate-v.result g ∙ c.evaluate-v.ensures x.first.value x.value x.valid.1 in (
       x.more,

@@ -5,9 +5,9 @@ use Rattle.rules.specs.Tokens.{meant, well_held, room, after}
 use Rattle.rules.proofs.Expressions.{given_by, held_none, held_more}
 use Rattle.rules.proofs.tokens.balanced.Goals as goal
 
-pub returns-in-default : goal.returns-in-default
-returns-in-default c =
-    sym (held_none c.args.cells c.args.arguments c.loop-i.d c.args.c.now c.loop-i.i c.loop-i-test.true (sym c.in-default.ensures)) ∙ c.loop-i.invariant.1
+pub returns-in_default : goal.returns-in_default
+returns-in_default c =
+    sym (held_none c.args.cells c.args.arguments c.loop-i.d c.args.c.now c.loop-i.i c.loop-i-test.true (sym c.in_default.ensures)) ∙ c.loop-i.invariant.1
 
 pub loop-i-preserved : goal.loop-i-preserved
 loop-i-preserved c =

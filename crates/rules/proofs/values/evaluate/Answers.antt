@@ -14,10 +14,10 @@ loop-i-init c = (
   λ ts e w. left_start c.args.width c.args.readable c.args.args.now c.args.cells.now c.args.c.now _ ts _ e w refl,
 )
 
-pub returns-in-default : goal.returns-in-default
-returns-in-default c ts e w =
+pub returns-in_default : goal.returns-in_default
+returns-in_default c ts e w =
     absurd (left_some c.args.width c.args.readable c.args.args.now c.args.cells.now c.args.c.now _ c.loop-i.i c.loop-i.d c.loop-i.stack
-    (c.loop-i.invariant.3 ts e w) c.loop-i-test.true (sym c.in-default.ensures))
+    (c.loop-i.invariant.3 ts e w) c.loop-i-test.true (sym c.in_default.ensures))
 
 pub loop-i-preserved : goal.loop-i-preserved
 loop-i-preserved c =
@@ -37,7 +37,7 @@ loop-i-preserved c =
 
 pub returns : goal.returns
 returns c ts e w =
-    let g : SFits w32 c.number-at.result = search rules in
-    to_z-of_z w32 c.number-at.result g ∙ c.number-at.ensures
+    let g : SFits w32 c.number_at.result = search rules in
+    to_z-of_z w32 c.number_at.result g ∙ c.number_at.ensures
     ∙ left_end c.args.width c.args.readable c.args.args.now c.args.cells.now c.args.c.now _ c.loop-i.i c.loop-i.d c.loop-i.stack
     (c.loop-i.invariant.3 ts e w) c.loop-i-test.false

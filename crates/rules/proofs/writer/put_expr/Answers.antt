@@ -25,10 +25,10 @@ loop-i-preserved c =
           let f = ap (emit c.args.first c.loop-i.d) o.all
           ∙ emit_first c.args.width c.args.readable c.args.first c.loop-i.d t o.more.rest c.code.result o.valid (c.code.ensures c.args.width h) in
           subst (λ k. (u : Unread c.args.width c.args.readable c.args.c.now (c.loop-i.i + 3) k)
-          × Wrote c.args.area.now c.args.at (emit c.args.first 0 ts) (emit c.args.first k u.rest) c.put-next-to.result c.put-next-to.new.area) (sym g.1) (
+          × Wrote c.args.area.now c.args.at (emit c.args.first 0 ts) (emit c.args.first k u.rest) c.put_next-to.result c.put_next-to.new.area) (sym g.1) (
             o.more,
             wrote_more c.args.area.now c.args.at (emit c.args.first 0 ts) (c.code.result ∷ []) (emit c.args.first (after c.loop-i.d t) o.more.rest) c.loop-i.to
-                c.loop-i.area (subst (λ b. Wrote c.args.area.now c.args.at (emit c.args.first 0 ts) b c.loop-i.to c.loop-i.area) f i.1) _ _ c.put-next-to.ensures,
+                c.loop-i.area (subst (λ b. Wrote c.args.area.now c.args.at (emit c.args.first 0 ts) b c.loop-i.to c.loop-i.area) f i.1) _ _ c.put_next-to.ensures,
           ),
     )
 

@@ -6,20 +6,20 @@ use Rattle.tables.proofs.reader.row_at.Goals as goal
 ends : (i n m size : ℕ) → m ≡ n → 6 + (5 + n) * i + (5 + n) ≤ size → 6 + (5 + m) * i + (5 + m) ≤ size
 ends i n m size e h = subst (λ k. 6 + (5 + k) * i + (5 + k) ≤ size) (sym e) h
 
-pub overflow-mul-at : goal.overflow-mul-at
-overflow-mul-at c = record { fits = omega (arith, ends c.args.i c.args.n c.from-n.result (length c.args.file.now) c.from-n.ensures c.requires) }
+pub overflow_mul-at : goal.overflow_mul-at
+overflow_mul-at c = record { fits = omega (arith, ends c.args.i c.args.n c.from-n.result (length c.args.file.now) c.from-n.ensures c.requires) }
 
-pub overflow-add-at-2 : goal.overflow-add-at-2
-overflow-add-at-2 c = record { fits = omega (arith, ends c.args.i c.args.n c.from-n.result (length c.args.file.now) c.from-n.ensures c.requires) }
+pub overflow_add-at-2 : goal.overflow_add-at-2
+overflow_add-at-2 c = record { fits = omega (arith, ends c.args.i c.args.n c.from-n.result (length c.args.file.now) c.from-n.ensures c.requires) }
 
-pub overflow-add-result : goal.overflow-add-result
-overflow-add-result c = record { fits = omega (arith, ends c.args.i c.args.n c.from-n.result (length c.args.file.now) c.from-n.ensures c.requires) }
+pub overflow_add-result : goal.overflow_add-result
+overflow_add-result c = record { fits = omega (arith, ends c.args.i c.args.n c.from-n.result (length c.args.file.now) c.from-n.ensures c.requires) }
 
-pub overflow-add-result-2 : goal.overflow-add-result-2
-overflow-add-result-2 c = record { fits = omega (arith, ends c.args.i c.args.n c.from-n.result (length c.args.file.now) c.from-n.ensures c.requires) }
+pub overflow_add-result-2 : goal.overflow_add-result-2
+overflow_add-result-2 c = record { fits = omega (arith, ends c.args.i c.args.n c.from-n.result (length c.args.file.now) c.from-n.ensures c.requires) }
 
-pub slice-bounds-result-end : goal.slice-bounds-result-end
-slice-bounds-result-end c = omega (arith, ends c.args.i c.args.n c.from-n.result (length c.args.file.now) c.from-n.ensures c.requires)
+pub slice_bounds-result-end : goal.slice_bounds-result-end
+slice_bounds-result-end c = omega (arith, ends c.args.i c.args.n c.from-n.result (length c.args.file.now) c.from-n.ensures c.requires)
 
 pub returns : goal.returns
 returns c =

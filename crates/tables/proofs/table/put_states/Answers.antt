@@ -7,19 +7,19 @@ use Rattle.tables.proofs.table.put_states.Goals.{then_next, else-next}
 pub loop-q-init : goal.loop-q-init
 loop-q-init c =
     let ns = c.args.nexts.now in
-    let e : row_size ns ≡ c.block-size-left.result = sym (states_size 0 0 ns) ∙ c.block-size-left.ensures.value 0 0 in
-    (c.block-size-left.ensures.few, omega arith, rw (← e) (start ns c.args.first c.args.area.now))
+    let e : row_size ns ≡ c.block_size-left.result = sym (states_size 0 0 ns) ∙ c.block_size-left.ensures.value 0 0 in
+    (c.block_size-left.ensures.few, omega arith, rw (← e) (start ns c.args.first c.args.area.now))
 
-pub overflow-sub-left : goal.overflow-sub-left
-overflow-sub-left c = seven c.args.nexts.now c.loop-q.q c.loop-q.left c.loop-q-test.true c.if-next.true c.loop-q.invariant.2.count
+pub overflow_sub-left : goal.overflow_sub-left
+overflow_sub-left c = seven c.args.nexts.now c.loop-q.q c.loop-q.left c.loop-q-test.true c.if-next.true c.loop-q.invariant.2.count
 
-pub put-all-requires : goal.put-all-requires
-put-all-requires c =
+pub put_all-requires : goal.put_all-requires
+put_all-requires c =
     let s = seven c.args.nexts.now c.loop-q.q c.loop-q.left c.loop-q-test.true c.if-next.true c.loop-q.invariant.2.count in
-    omega (arith, ap length c.state-tests.ensures, states_size c.args.first 0 c.args.nexts.now, c.requires.room)
+    omega (arith, ap length c.state_tests.ensures, states_size c.args.first 0 c.args.nexts.now, c.requires.room)
 
-pub overflow-add-at : goal.overflow-add-at
-overflow-add-at c =
+pub overflow_add-at : goal.overflow_add-at
+overflow_add-at c =
     let s = seven c.args.nexts.now c.loop-q.q c.loop-q.left c.loop-q-test.true c.if-next.true c.loop-q.invariant.2.count in
     record { fits = omega (arith, states_size c.args.first 0 c.args.nexts.now, c.requires.room) }
 
@@ -30,12 +30,12 @@ loop-q-preserved c =
     elim c.if-next.branch [
       | then_next w ↦
           let s = seven ns q c.loop-q.left c.loop-q-test.true w.if-next.true c.loop-q.invariant.2.count in
-          let p = rw w.state-tests.ensures at w.put-all.ensures in
+          let p = rw w.state_tests.ensures at w.put_all.ensures in
           let k = states_size c.args.first 0 ns in (
             omega (arith, w.left-is),
             omega (arith, w.left-is, w.at-is),
             rw (w.left-is, w.at-is, w.area-is)
-                (with_next ns c.args.first q c.loop-q.at c.loop-q.left (c.loop-q.left - 7) c.args.area.now c.loop-q.area w.put-all.new.area
+                (with_next ns c.args.first q c.loop-q.at c.loop-q.left (c.loop-q.left - 7) c.args.area.now c.loop-q.area w.put_all.new.area
                 c.loop-q-test.true w.if-next.true (omega (arith, k, c.requires.room)) (omega arith) p c.loop-q.invariant.2 (omega arith)),
           )
       | else-next w ↦ (

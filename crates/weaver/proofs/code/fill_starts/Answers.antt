@@ -15,8 +15,8 @@ loop-index-preserved c =
     let sizes = c.args.sizes.now in
     let cs = owns c.args.methods c.args.code.now in
     let i = c.loop-index.index in
-    let n = start_next c.args.methods c.args.code.now sizes i c.size-of.result c.loop-index.end (omega arith)
-    (c.size-of.ensures ∙ ap (size_by sizes) c.own-at.ensures.value) s.0 in
+    let n = start_next c.args.methods c.args.code.now sizes i c.size_of.result c.loop-index.end (omega arith)
+    (c.size_of.ensures ∙ ap (size_by sizes) c.own_at.ensures.value) s.0 in
     let l = s.2 in
     let b = s.1 in
     (n, omega arith, length-set _ _ _ ∙ l, filled_more sizes cs i _ c.loop-index.starts (omega arith) n s.3)

@@ -8,4 +8,4 @@ use Rattle.weaver.proofs.fields.put_cell.Goals as goal
 pub returns : goal.returns
 returns c =
     part_put c.args.area.now _ (flat (quad_of c.args.cell ∷ [])) c.args.at 4
-    (c.copy-from-slice.ensures.after ∙ cell_put c.args.cell _ _ c.ranges.cell (to_z-of_z w32 c.args.cell c.ranges.cell) c.to-be-bytes.ensures) refl
+    (c.copy_from_slice.ensures.after ∙ cell_put c.args.cell _ _ c.ranges.cell (to_z-of_z w32 c.args.cell c.ranges.cell) c.to_be_bytes.ensures) refl

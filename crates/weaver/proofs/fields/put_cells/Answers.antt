@@ -16,7 +16,7 @@ loop-cell-preserved c =
     let f : SFits w32 z = search rules in (
       omega arith,
       cells_more c.args.area.now c.args.at c.args.cells.now c.loop-cell.cell-index (pos 0) c.loop-cell.area c.loop-cell.to _ c.loop-cell-test.true c.requires
-          h.0 h.1 (c.put-cell.ensures ∙ ap (λ z. put_at c.loop-cell.area c.loop-cell.to (flat (quad_of z ∷ []))) (to_z-of_z w32 z f)),
+          h.0 h.1 (c.put_cell.ensures ∙ ap (λ z. put_at c.loop-cell.area c.loop-cell.to (flat (quad_of z ∷ []))) (to_z-of_z w32 z f)),
     )
 
 pub returns : goal.returns

@@ -12,13 +12,13 @@ returns g c =
     let told = c.width-width.ensures in
     let narrow = c.requires.width in
     let room = c.requires.room in
-    let to = c.put-head-at.ensures.behind in
+    let to = c.put_head-at.ensures.behind in
     let long = (g.P.Policy.shows c.args.p.now).starts in
     let l = cells_length A.starts in
     let k : n ≡ A.width = omega arith in
-    let s : take n c.start-row-row.result ≡ A.starts = ap (λ k. take k c.start-row-row.result) k ∙ c.start-row-row.ensures in
-    let b = c.put-cells.ensures.behind ∙ ap (λ zs. c.put-head-at.result + 4 * length zs) s in
-    let r = wrote_more xs c.args.at c.put-head-at.new.area c.put-head-at.result (3 ∷ high (4 * n) ∷ low (4 * n) ∷ [])
-    (record { is = c.put-head-at.ensures.area; to = to }) c.put-cells.new.area c.put-cells.result (flat (map quad_of A.starts))
-    (c.put-cells.ensures.area ∙ ap (λ zs. put_at c.put-head-at.new.area c.put-head-at.result (flat (map quad_of zs))) s) (omega arith) (omega arith) in
+    let s : take n c.start_row-row.result ≡ A.starts = ap (λ k. take k c.start_row-row.result) k ∙ c.start_row-row.ensures in
+    let b = c.put_cells.ensures.behind ∙ ap (λ zs. c.put_head-at.result + 4 * length zs) s in
+    let r = wrote_more xs c.args.at c.put_head-at.new.area c.put_head-at.result (3 ∷ high (4 * n) ∷ low (4 * n) ∷ [])
+    (record { is = c.put_head-at.ensures.area; to = to }) c.put_cells.new.area c.put_cells.result (flat (map quad_of A.starts))
+    (c.put_cells.ensures.area ∙ ap (λ zs. put_at c.put_head-at.new.area c.put_head-at.result (flat (map quad_of zs))) s) (omega arith) (omega arith) in
     record { area = r.is ∙ ap (put_at xs c.args.at) (field_parts 3 (4 * n) (flat (map quad_of A.starts)) (omega arith)); behind = omega arith }

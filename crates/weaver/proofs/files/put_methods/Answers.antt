@@ -53,9 +53,9 @@ module _ (g : _) (c : In-Some g) where
 pub loop-x-init : goal.loop-x-init
 loop-x-init g c = (omega arith, record { is = sym (put_none c.args.area.now c.args.at); to = omega arith })
 
-pub put-method-to-requires : goal.put-method-to-requires
-put-method-to-requires g c =
-    let b = (goal.at.put-method-to-requires g c).In-Some in
+pub put_method-to-requires : goal.put_method-to-requires
+put_method-to-requires g c =
+    let b = (goal.at.put_method-to-requires g c).In-Some in
     let e = ap length (this g b) in
     let s = short g b in
     let r = room g b in
@@ -75,11 +75,11 @@ loop-x-preserved g c =
     let h = (at g b).there in
     let k = c.loop-x.auto.area in (
       omega arith,
-      method_more (A g b) (B g b) (a g b) c.args.area.now c.args.at c.loop-x.area c.loop-x.to c.loop-x.m c.loop-x.invariant.1 (there g b) c.put-method-to.new.area c.put-method-to.result
-          (c.put-method-to.ensures.area ∙ ap (λ d. put_at c.loop-x.area c.loop-x.to (field 4 (write_code d))) (this g b)) (c.put-method-to.ensures.behind ∙ omega arith) (omega arith),
+      method_more (A g b) (B g b) (a g b) c.args.area.now c.args.at c.loop-x.area c.loop-x.to c.loop-x.m c.loop-x.invariant.1 (there g b) c.put_method-to.new.area c.put_method-to.result
+          (c.put_method-to.ensures.area ∙ ap (λ d. put_at c.loop-x.area c.loop-x.to (field 4 (write_code d))) (this g b)) (c.put_method-to.ensures.behind ∙ omega arith) (omega arith),
     )
 
 pub returns : goal.returns
 returns g c =
     methods_all (g.P.Policy.meaning c.args.p.now) (g.P.Policy.blocks c.args.p.now) (meant c.args.applet.now) c.args.area.now c.args.at c.loop-x.area c.loop-x.to c.loop-x.m
-    c.loop-x.invariant.1 c.in-default.ensures
+    c.loop-x.invariant.1 c.in_default.ensures

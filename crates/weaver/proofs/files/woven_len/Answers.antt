@@ -10,9 +10,9 @@ use Rattle.weaver.specs.Weaves.{MethodAt, woven_of}
 use Rattle.weaver.proofs.WovenMethod.{found_size}
 use Rattle.weaver.proofs.WovenFile.{count, woven_at, measured_none, measured_more, measured_stops, measured_all}
 use Rattle.weaver.proofs.files.woven_len.Goals as goal
-use Rattle.weaver.proofs.files.woven_len.Goals.{After-fill-starts-size}
+use Rattle.weaver.proofs.files.woven_len.Goals.{After-fill_starts-size}
 
-module _ (g : _) (c : After-fill-starts-size g) where
+module _ (g : _) (c : After-fill_starts-size g) where
   abbrev A : Automaton
   A = g.P.Policy.meaning c.args.p.now
 
@@ -29,23 +29,23 @@ module _ (g : _) (c : After-fill-starts-size g) where
   there = let n = count A B a in let h = at.there in omega arith
 
   -- the size that was found is that of the woven method
-  size : c.fill-starts-size.result ≡ length (get_or (woven_of A B a).methods c.loop-x.m [])
+  size : c.fill_starts-size.result ≡ length (get_or (woven_of A B a).methods c.loop-x.m [])
   size =
-      found_size A B c.args.sizes.now c.requires.sizes c.methods-methods.result c.in-Some.x.code.now c.fill-starts-size.result c.fill-starts-size.ensures.end ∙
+      found_size A B c.args.sizes.now c.requires.sizes c.methods-methods.result c.in-Some.x.code.now c.fill_starts-size.result c.fill_starts-size.ensures.end ∙
       ap (λ n. length (woven A.watched (λ k t. B k t 0) (owns n c.in-Some.x.code.now))) c.methods-methods.ensures ∙
       sym (ap length (woven_at A B a c.loop-x.m c.in-Some.x.place c.in-Some.x.code.now at))
 
 pub returns-then-size-gt4096 : goal.returns-then-size-gt4096
 returns-then-size-gt4096 g c =
-    let b = (goal.at.returns-then-size-gt4096 g c).After-fill-starts-size in
+    let b = (goal.at.returns-then-size-gt4096 g c).After-fill_starts-size in
     ap (λ p. Err (MethodTooLong p)) (at g b).placed ∙
-    measured_stops (A g b) (B g b) (a g b) c.loop-x.m c.loop-x.len c.loop-x.invariant (there g b) c.fill-starts-size.result (Ok (length (write_applet (woven_of (A g b) (B g b) (a g b))))) (size g b) c.if-size-gt4096.true
+    measured_stops (A g b) (B g b) (a g b) c.loop-x.m c.loop-x.len c.loop-x.invariant (there g b) c.fill_starts-size.result (Ok (length (write_applet (woven_of (A g b) (B g b) (a g b))))) (size g b) c.if-size-gt4096.true
 
 pub loop-x-preserved : goal.loop-x-preserved
 loop-x-preserved g c =
-    let b = (goal.at.loop-x-preserved g c).After-fill-starts-size in
-    measured_more (A g b) (B g b) (a g b) c.loop-x.m c.loop-x.len c.loop-x.invariant (there g b) c.fill-starts-size.result (size g b) c.if-size-gt4096.false
+    let b = (goal.at.loop-x-preserved g c).After-fill_starts-size in
+    measured_more (A g b) (B g b) (a g b) c.loop-x.m c.loop-x.len c.loop-x.invariant (there g b) c.fill_starts-size.result (size g b) c.if-size-gt4096.false
 
 pub returns : goal.returns
 returns g c =
-    measured_all (g.P.Policy.meaning c.args.p.now) (g.P.Policy.blocks c.args.p.now) (meant c.args.applet.now) c.loop-x.m c.loop-x.len c.loop-x.invariant c.in-default.ensures
+    measured_all (g.P.Policy.meaning c.args.p.now) (g.P.Policy.blocks c.args.p.now) (meant c.args.applet.now) c.loop-x.m c.loop-x.len c.loop-x.invariant c.in_default.ensures

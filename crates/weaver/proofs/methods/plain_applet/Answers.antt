@@ -8,4 +8,4 @@ pub returns-then-starts-gt0 : goal.returns-then-starts-gt0
 returns-then-starts-gt0 c = ap (λ xs. Err (NotPlain (8 + length xs))) c.entries.ensures ∙ filled_cells (meant c.args.applet.now) (omega arith)
 
 pub returns : goal.returns
-returns c = c.plain-methods.ensures ∙ no_cells (meant c.args.applet.now) (omega arith)
+returns c = c.plain_methods.ensures ∙ no_cells (meant c.args.applet.now) (omega arith)

@@ -23,8 +23,8 @@ retarget-c-requires g c =
       starts = λ j h. let e = c.requires.starts j h in let b = start_below w block cs j in omega arith;
     }
 
-pub overflow-cast-starts : goal.overflow-cast-starts
-overflow-cast-starts g c =
+pub overflow_cast-starts : goal.overflow_cast-starts
+overflow_cast-starts g c =
     let cs = owns c.args.methods c.args.code.now in
     let w = (g.P.Policy.meaning c.args.p.now).watched in
     let block : ℕ → Moment → List Test = λ k t. g.P.Policy.blocks c.args.p.now k t 0 in
@@ -51,19 +51,19 @@ module _ (g : _) (c : After-retarget-c g) where
   this =
       let l = length_owns c.args.methods c.args.code.now in
       let h = c.loop-index-test.true in
-      c.retarget-c.ensures.value ∙ targets w block cs c.args.starts.now (length c.args.code.now / 4) (sym l) c.requires.starts c.own-at.result ∙
-      ap (retarget (start w block cs)) (c.own-at.ensures.value ∙ sym (own_item c.args.methods c.args.code.now c.loop-index.index Own.End (omega arith)))
+      c.retarget-c.ensures.value ∙ targets w block cs c.args.starts.now (length c.args.code.now / 4) (sym l) c.requires.starts c.own_at.result ∙
+      ap (retarget (start w block cs)) (c.own_at.ensures.value ∙ sym (own_item c.args.methods c.args.code.now c.loop-index.index Own.End (omega arith)))
 
-pub put-piece-to-requires : goal.put-piece-to-requires
-put-piece-to-requires g c =
-    let a = (goal.at.put-piece-to-requires g c).After-retarget-c in
+pub put_piece-to-requires : goal.put_piece-to-requires
+put_piece-to-requires g c =
+    let a = (goal.at.put_piece-to-requires g c).After-retarget-c in
     let short = c.requires.short in
     let e = c.requires.starts c.loop-index.index (omega arith) in
     let b = start_below (w g a) (block g a) (cs g a) c.loop-index.index in
     let room = c.requires.room in
     let long = c.loop-index.auto.area in
     record {
-      call = c.retarget-c.ensures.call c.own-at.ensures.known;
+      call = c.retarget-c.ensures.call c.own_at.ensures.known;
       limited = c.requires.limited;
       sizes = c.requires.sizes;
       index = omega arith;
@@ -77,8 +77,8 @@ loop-index-preserved g c =
     let r = piece_room (w g a) (block g a) (cs g a) c.args.area.now c.args.at c.loop-index.area c.loop-index.to c.loop-index.index c.loop-index.invariant c.retarget-c.result (there g a) (this g a) in
     let room = c.requires.room in
     laid_more (w g a) (block g a) (cs g a) c.args.area.now c.args.at c.loop-index.area c.loop-index.to c.loop-index.index c.loop-index.invariant c.retarget-c.result
-    c.put-piece-to.new.area c.put-piece-to.result (get_or c.args.starts.now c.loop-index.index 0) (there g a) (this g a) (c.requires.starts c.loop-index.index (omega arith))
-    c.put-piece-to.ensures.area c.put-piece-to.ensures.behind (omega arith)
+    c.put_piece-to.new.area c.put_piece-to.result (get_or c.args.starts.now c.loop-index.index 0) (there g a) (this g a) (c.requires.starts c.loop-index.index (omega arith))
+    c.put_piece-to.ensures.area c.put_piece-to.ensures.behind (omega arith)
 
 pub returns : goal.returns
 returns g c =

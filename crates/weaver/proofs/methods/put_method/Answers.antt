@@ -11,9 +11,9 @@ use Rattle.weaver.proofs.SiteBytes.{write_length}
 use Rattle.weaver.proofs.Bytes.{wrote_more, field_parts}
 use Rattle.weaver.proofs.WovenMethod.{start_same, found_size}
 use Rattle.weaver.proofs.methods.put_method.Goals as goal
-use Rattle.weaver.proofs.methods.put_method.Goals.{After-fill-starts-size}
+use Rattle.weaver.proofs.methods.put_method.Goals.{After-fill_starts-size}
 
-module _ (g : _) (c : After-fill-starts-size g) where
+module _ (g : _) (c : After-fill_starts-size g) where
   abbrev cs : List Own
   cs = owns c.args.methods c.args.code.now
 
@@ -28,45 +28,45 @@ module _ (g : _) (c : After-fill-starts-size g) where
   same = start_same (g.P.Policy.meaning c.args.p.now) (g.P.Policy.blocks c.args.p.now) c.args.sizes.now c.requires.sizes c.args.methods c.args.code.now
 
   -- the size that was found
-  size : c.fill-starts-size.result ≡ length (woven w block cs)
+  size : c.fill_starts-size.result ≡ length (woven w block cs)
   size =
       found_size (g.P.Policy.meaning c.args.p.now) (g.P.Policy.blocks c.args.p.now) c.args.sizes.now c.requires.sizes c.args.methods c.args.code.now
-      c.fill-starts-size.result c.fill-starts-size.ensures.end
+      c.fill_starts-size.result c.fill_starts-size.ensures.end
 
-pub overflow-mul-size : goal.overflow-mul-size
-overflow-mul-size g c = let e = size g (goal.at.overflow-mul-size g c).After-fill-starts-size in let short = c.requires.short in omega arith
+pub overflow_mul-size : goal.overflow_mul-size
+overflow_mul-size g c = let e = size g (goal.at.overflow_mul-size g c).After-fill_starts-size in let short = c.requires.short in omega arith
 
-pub put-head-at-requires : goal.put-head-at-requires
-put-head-at-requires g c =
-    let e = size g (goal.at.put-head-at-requires g c).After-fill-starts-size in
+pub put_head-at-requires : goal.put_head-at-requires
+put_head-at-requires g c =
+    let e = size g (goal.at.put_head-at-requires g c).After-fill_starts-size in
     let short = c.requires.short in
     let room = c.requires.room in
     record { room = omega arith; len = omega arith }
 
-pub put-code-requires : goal.put-code-requires
-put-code-requires g c =
-    let a = (goal.at.put-code-requires g c).After-fill-starts-size in
+pub put_code-requires : goal.put_code-requires
+put_code-requires g c =
+    let a = (goal.at.put_code-requires g c).After-fill_starts-size in
     let room = c.requires.room in
-    let to = c.put-head-at.ensures.behind in
+    let to = c.put_head-at.ensures.behind in
     record {
       limited = c.requires.limited;
       sizes = c.requires.sizes;
       size = c.requires.size;
-      starts = λ j h. c.fill-starts-size.ensures.starts j h ∙ same g a j;
+      starts = λ j h. c.fill_starts-size.ensures.starts j h ∙ same g a j;
       short = c.requires.short;
       room = omega arith;
     }
 
 pub returns : goal.returns
 returns g c =
-    let a = (goal.at.returns g c).After-fill-starts-size in
+    let a = (goal.at.returns g c).After-fill_starts-size in
     let e = size g a in
     let l = write_length (woven (w g a) (block g a) (cs g a)) in
-    let n = 4 * c.fill-starts-size.result in
+    let n = 4 * c.fill_starts-size.result in
     let xs = c.args.area.now in
     let room = c.requires.room in
-    let to = c.put-head-at.ensures.behind in
-    let r = wrote_more xs c.args.at c.put-head-at.new.area c.put-head-at.result (4 ∷ high n ∷ low n ∷ [])
-    (record { is = c.put-head-at.ensures.area; to = to }) c.put-code.new.area c.put-code.result (write_code (woven (w g a) (block g a) (cs g a)))
-    c.put-code.ensures.area (c.put-code.ensures.behind ∙ omega arith) (omega arith) in
-    record { area = r.is ∙ ap (put_at xs c.args.at) (field_parts 4 n (write_code (woven (w g a) (block g a) (cs g a))) (omega arith)); behind = c.put-code.ensures.behind ∙ omega arith }
+    let to = c.put_head-at.ensures.behind in
+    let r = wrote_more xs c.args.at c.put_head-at.new.area c.put_head-at.result (4 ∷ high n ∷ low n ∷ [])
+    (record { is = c.put_head-at.ensures.area; to = to }) c.put_code.new.area c.put_code.result (write_code (woven (w g a) (block g a) (cs g a)))
+    c.put_code.ensures.area (c.put_code.ensures.behind ∙ omega arith) (omega arith) in
+    record { area = r.is ∙ ap (put_at xs c.args.at) (field_parts 4 n (write_code (woven (w g a) (block g a) (cs g a))) (omega arith)); behind = c.put_code.ensures.behind ∙ omega arith }

@@ -15,4 +15,4 @@ returns g c =
     let a = c.requires.limited.blocks k Moment.After c.requires.call in
     let r = c.requires.limited.blocks k Moment.Raised c.requires.call in
     watched_size (g.P.Policy.meaning c.args.p.now) k c.requires.call B _ _ _ (sym c.if-not-watched.ensures)
-    (c.block-len-before.ensures ∙ omega arith) (c.block-len-after.ensures ∙ omega arith) (c.block-len-raised.ensures ∙ omega arith)
+    (c.block_len-before.ensures ∙ omega arith) (c.block_len-after.ensures ∙ omega arith) (c.block_len-raised.ensures ∙ omega arith)

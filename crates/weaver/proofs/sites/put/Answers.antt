@@ -5,6 +5,6 @@ use Rattle.weaver.proofs.sites.put.Goals as goal
 
 pub returns : goal.returns
 returns c = record {
-  area = part_put c.args.area.now _ (write_code (c.args.instr ∷ [])) c.args.at 4 (c.copy-from-slice.ensures.after ∙ c.encode.ensures.value) refl;
+  area = part_put c.args.area.now _ (write_code (c.args.instr ∷ [])) c.args.at 4 (c.copy_from_slice.ensures.after ∙ c.encode.ensures.value) refl;
   behind = refl;
 }

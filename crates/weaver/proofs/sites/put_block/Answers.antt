@@ -8,6 +8,6 @@ returns g c =
     let B = g.P.Policy.blocks c.args.p.now in
     let short = c.requires.limited.blocks c.args.call c.args.moment c.requires.call in
     record {
-      area = block_put A B c.args.call c.args.moment c.requires.call c.requires.limited.cells short c.args.area.now c.write-block.new.area c.args.at c.requires.room c.write-block.ensures.area;
-      behind = let e = c.block-len.ensures in omega arith;
+      area = block_put A B c.args.call c.args.moment c.requires.call c.requires.limited.cells short c.args.area.now c.write_block.new.area c.args.at c.requires.room c.write_block.ensures.area;
+      behind = let e = c.block_len.ensures in omega arith;
     }

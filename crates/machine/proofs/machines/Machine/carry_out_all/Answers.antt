@@ -13,23 +13,23 @@ pub loop-x-preserved : goal.loop-x-preserved
 loop-x-preserved c =
     let p = program c.args.self.now in
     let m = holds_now c.loop-x.self in
-    let k = holds_now c.carry-out-s.new.self in
+    let k = holds_now c.carry_out-s.new.self in
     let xs = c.args.acts.now in
     let i = c.loop-x.x-index in
     let n = c.loop-x.n in
     let r = c.note-n.result in
     let h = c.loop-x.invariant in
-    let s = seen_list c.carry-out-s.result in
+    let s = seen_list c.carry_out-s.result in
     let l : i < length xs = omega arith in
     let x = act_of (get_or xs i (Act.Step 0)) in
-    let a : k ≡ model.act p m x = c.carry-out-s.ensures.after ∙ ap (λ (q : machine.Applet). model.act q m x) h.1 in
-    let o : s ≡ model.sees p m x = c.carry-out-s.ensures.value ∙ ap (λ (q : machine.Applet). model.sees q m x) h.1 in
-    let one = one_at_most c.carry-out-s.result in
+    let a : k ≡ model.act p m x = c.carry_out-s.ensures.after ∙ ap (λ (q : machine.Applet). model.act q m x) h.1 in
+    let o : s ≡ model.sees p m x = c.carry_out-s.ensures.value ∙ ap (λ (q : machine.Applet). model.sees q m x) h.1 in
+    let one = one_at_most c.carry_out-s.result in
     let e = c.note-n.ensures.count in
     let up : r ≤ i + 1 = omega arith in
     let on : n ≤ r = omega arith in (
       up,
-      c.carry-out-s.ensures.program ∙ h.1,
+      c.carry_out-s.ensures.program ∙ h.1,
       ran_on p m k xs i l a ∙ h.2,
       seen_on p m k xs i l (take n (map seen_of c.loop-x.seen)) (take r (map seen_of c.note-n.new.seen)) s _ a o c.note-n.ensures.front h.3,
       c.note-n.ensures.behind ∙ drop_later n r (map seen_of c.loop-x.seen) (map seen_of c.args.seen.now) on h.4,

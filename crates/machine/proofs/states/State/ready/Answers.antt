@@ -9,10 +9,10 @@ pub returns : goal.returns
 returns c =
     let m = c.args.self.now in
     let t = c.args.t in
-    let a = c.in-ok-admit.ensures.there in
+    let a = c.in_ok-admit.ensures.there in
     let r : t < length m.threads = search rules in
     record {
-      value = ready_at m t a.1 r c.ready.result c.ready.ensures.value c.in-ok-admit.ensures.value;
+      value = ready_at m t a.1 r c.ready.result c.ready.ensures.value c.in_ok-admit.ensures.value;
       there =
           made_to (λ (s : Stand). ((stored m t).status ≡ Status.Ready) × (s.method ≡ (stored m t).top.method) × (s.index ≡ (stored m t).top.index))
           (λ (s : Stand). Ready m t × (s.method ≡ (stored m t).top.method) × (s.index ≡ (stored m t).top.index)) c.ready.result

@@ -6,13 +6,13 @@ use Rattle.rules.proofs.Refusing.{refuses_calls}
 use Rattle.rules.proofs.borrowed.Rules.new.Goals as goal
 
 pub over-requires : goal.over-requires
-over-requires c = ap reads_rules c.refusing-file.ensures ∙ ap is_ok refusing_rules_read
+over-requires c = ap reads_rules c.refusing_file.ensures ∙ ap is_ok refusing_rules_read
 
-pub returns-then-is-err : goal.returns-then-is-err
-returns-then-is-err c =
+pub returns-then-is_err : goal.returns-then-is_err
+returns-then-is_err c =
     record {
-      value = ap rules_in (c.over.ensures ∙ c.refusing-file.ensures) ∙ refusing_rules_in
-          ∙ sym (rules_refused_in c.args.file.now (refused_read c.args.file.now c.check.result c.check.ensures (sym c.if-is-err.ensures.value)));
+      value = ap rules_in (c.over.ensures ∙ c.refusing_file.ensures) ∙ refusing_rules_in
+          ∙ sym (rules_refused_in c.args.file.now (refused_read c.args.file.now c.check.result c.check.ensures (sym c.if-is_err.ensures.value)));
       refusing = refuses_calls;
     }
 

@@ -6,17 +6,17 @@ use Rattle.rules.proofs.borrowed.Rules.over.Goals as goal
 
 pub of-index-requires : goal.of-index-requires
 of-index-requires c =
-    let s = c.rules-of.ensures.size in
+    let s = c.rules_of.ensures.size in
     let l = file_short c.args.file.now c.requires in
     record { inside = omega arith; short = omega arith }
 
-pub invariant-of-result : goal.invariant-of-result
-invariant-of-result c =
+pub invariant_of-result : goal.invariant_of-result
+invariant_of-result c =
     let f = c.args.file.now in
     let rs = (rules_in f).rules in
-    let s = c.rules-of.ensures.size in
-    let p : length f - length c.rules-of.result.now ≡ rules_place f = omega arith in
+    let s = c.rules_of.ensures.size in
+    let p : length f - length c.rules_of.result.now ≡ rules_place f = omega arith in
     let n = length (rules_in f).starts in
-    let w = c.rules-of.ensures.value in
+    let w = c.rules_of.ensures.value in
     let i = c.of-index.ensures in
     (c.requires, (λ k t h. i.firsts n rs w k t h ∙ ap (first_place rs k t) p, (λ k t h. i.lasts n rs w k t h ∙ ap (λ q. last_place rs k t q (length f)) p, tt)))

@@ -10,14 +10,14 @@ use Rattle.rules.specs.Views.{Written}
 use Rattle.rules.proofs.Acts.{behind_row}
 use Rattle.rules.proofs.borrowed.RulesPolicy.step.Goals as goal
 
-pub returns-in-err-may-step : goal.returns-in-err-may-step
-returns-in-err-may-step c =
-    let p = err_from_is_err_and c.from-residual.result c.from-residual.ensures.1 in
+pub returns-in_err-may_step : goal.returns-in_err-may_step
+returns-in_err-may_step c =
+    let p = err_from_is_err_and c.from_residual.result c.from_residual.ensures.1 in
     let A = rules_automaton (rules_in c.args.self.now.file.now) in
     let e : Event = record { moment = c.args.moment; call = c.args.call; args = c.args.args.now; answer = c.args.answer } in
-    let v = c.cells-of-n.ensures.value in
-    let w : c.cells-of-n.result ≡ told_width A = (let u = c.cells-of-n.ensures.few in omega arith) in
-    let h = step_refused A e c.args.row.now c.in-err-may-step.field-0.0 (c.in-err-may-step.ensures ∙ ap (λ n. may_step c.args.call n (length c.args.row.now)) w) in
+    let v = c.cells_of-n.ensures.value in
+    let w : c.cells_of-n.result ≡ told_width A = (let u = c.cells_of-n.ensures.few in omega arith) in
+    let h = step_refused A e c.args.row.now c.in_err-may_step.field-0.0 (c.in_err-may_step.ensures ∙ ap (λ n. may_step c.args.call n (length c.args.row.now)) w) in
     record { answer = p.1 ∙ ap Err p.2 ∙ h.0; row = h.1 }
 
 pub returns : goal.returns
@@ -26,13 +26,13 @@ returns c =
     let A = rules_automaton q in
     let row = c.args.row.now in
     let e : Event = record { moment = c.args.moment; call = c.args.call; args = c.args.args.now; answer = c.args.answer } in
-    let v = c.cells-of-n.ensures.value in
-    let w : c.cells-of-n.result ≡ told_width A = (let u = c.cells-of-n.ensures.few in omega arith) in
-    let h = step_allowed A e row (c.in-ok-may-step.ensures ∙ ap (λ n. may_step c.args.call n (length row)) w) in
-    let r = c.rules-for-rules.ensures in
-    let wr = subst (λ n. Written n c.rules-for-rules.result.now r.0) (sym v) r.1 in
-    let z = c.step-cells.ensures.answer r.0 wr in
-    let y = c.step-cells.ensures.cells r.0 wr in
+    let v = c.cells_of-n.ensures.value in
+    let w : c.cells_of-n.result ≡ told_width A = (let u = c.cells_of-n.ensures.few in omega arith) in
+    let h = step_allowed A e row (c.in_ok-may_step.ensures ∙ ap (λ n. may_step c.args.call n (length row)) w) in
+    let r = c.rules_for-rules.ensures in
+    let wr = subst (λ n. Written n c.rules_for-rules.result.now r.0) (sym v) r.1 in
+    let z = c.step_cells.ensures.answer r.0 wr in
+    let y = c.step_cells.ensures.cells r.0 wr in
     let R = rules_of r.0 c.args.call c.args.moment in
     let k : c.from-end.result - 0 ≡ A.width = (let g = c.from-end.ensures in omega arith) in
     let o = A.step e (take A.width row) in

@@ -18,7 +18,7 @@ loop-rest-init c =
         v,
         λ k t h.
             let p = end - length c.args.rules.now in
-            let s = ap (λ i. span_of i k t) c.all-at-index.ensures ∙ span_all end k t h in (
+            let s = ap (λ i. span_of i k t) c.all_at-index.ensures ∙ span_all end k t h in (
               ap (λ (z : Span). kept_first end (first_place rs k t p) z.from) s ∙ first_none end (first_place rs k t p),
               ap (λ (z : Span). last_place rs k t p z.to) s,
             ),
@@ -27,15 +27,15 @@ loop-rest-init c =
 
 pub loop-rest-preserved : goal.loop-rest-preserved
 loop-rest-preserved c =
-    let l = c.first-rule-r.ensures.less in
+    let l = c.first_rule-r.ensures.less in
     let s = c.loop-rest.invariant.0 in
     let end = c.args.end in
     let at = end - length c.loop-rest.rest.now in
-    let to = end - length c.first-rule-r.result.rest.now in (
+    let to = end - length c.first_rule-r.result.rest.now in (
       omega arith,
       λ n rs v.
           let i = c.loop-rest.invariant.1 n rs v in
-          let x = next_rule n c.loop-rest.rest.now i.0 (rule_view c.first-rule-r.result) i.1 (omega arith) c.first-rule-r.ensures.parts in
+          let x = next_rule n c.loop-rest.rest.now i.0 (rule_view c.first_rule-r.result) i.1 (omega arith) c.first_rule-r.ensures.parts in
           let a = ap length (i.1.0 ∙ ap (flat_map rule_bytes) x.all) ∙ length-append (rule_bytes x.first) (flat_map rule_bytes x.more) in
           let b = ap length x.written.0 in
           let p : to ≡ at + length (rule_bytes x.first) = omega arith in

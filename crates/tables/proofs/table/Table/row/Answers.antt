@@ -8,20 +8,20 @@ use Rattle.tables.proofs.table.Table.row.Goals as goal
 ends : (f : List ℕ) → reads_table f ≡ true → (i n m : ℕ) → i < length (table_in f).rows → n ≡ m → m ≡ (table_in f).states → 6 + (5 + n) * i + (5 + n) ≤ length f
 ends f ok i n m h e v = subst (λ k. 6 + (5 + k) * i + (5 + k) ≤ length f) (sym (e ∙ v)) (row_ends f (table_in f) (file_in f ok) i h)
 
-pub overflow-mul-at : goal.overflow-mul-at
-overflow-mul-at c = record { fits = omega (arith, ends c.args.self.now.file.now c.args.self.now.ok c.args.i c.from-n.result _ c.requires c.from-n.ensures c.states.ensures.value) }
+pub overflow_mul-at : goal.overflow_mul-at
+overflow_mul-at c = record { fits = omega (arith, ends c.args.self.now.file.now c.args.self.now.ok c.args.i c.from-n.result _ c.requires c.from-n.ensures c.states.ensures.value) }
 
-pub overflow-add-at-2 : goal.overflow-add-at-2
-overflow-add-at-2 c = record { fits = omega (arith, ends c.args.self.now.file.now c.args.self.now.ok c.args.i c.from-n.result _ c.requires c.from-n.ensures c.states.ensures.value) }
+pub overflow_add-at-2 : goal.overflow_add-at-2
+overflow_add-at-2 c = record { fits = omega (arith, ends c.args.self.now.file.now c.args.self.now.ok c.args.i c.from-n.result _ c.requires c.from-n.ensures c.states.ensures.value) }
 
-pub overflow-add-result : goal.overflow-add-result
-overflow-add-result c = record { fits = omega (arith, ends c.args.self.now.file.now c.args.self.now.ok c.args.i c.from-n.result _ c.requires c.from-n.ensures c.states.ensures.value) }
+pub overflow_add-result : goal.overflow_add-result
+overflow_add-result c = record { fits = omega (arith, ends c.args.self.now.file.now c.args.self.now.ok c.args.i c.from-n.result _ c.requires c.from-n.ensures c.states.ensures.value) }
 
-pub overflow-add-result-2 : goal.overflow-add-result-2
-overflow-add-result-2 c = record { fits = omega (arith, ends c.args.self.now.file.now c.args.self.now.ok c.args.i c.from-n.result _ c.requires c.from-n.ensures c.states.ensures.value) }
+pub overflow_add-result-2 : goal.overflow_add-result-2
+overflow_add-result-2 c = record { fits = omega (arith, ends c.args.self.now.file.now c.args.self.now.ok c.args.i c.from-n.result _ c.requires c.from-n.ensures c.states.ensures.value) }
 
-pub slice-bounds-result-end : goal.slice-bounds-result-end
-slice-bounds-result-end c = omega (arith, ends c.args.self.now.file.now c.args.self.now.ok c.args.i c.from-n.result _ c.requires c.from-n.ensures c.states.ensures.value)
+pub slice_bounds-result-end : goal.slice_bounds-result-end
+slice_bounds-result-end c = omega (arith, ends c.args.self.now.file.now c.args.self.now.ok c.args.i c.from-n.result _ c.requires c.from-n.ensures c.states.ensures.value)
 
 pub returns : goal.returns
 returns c =

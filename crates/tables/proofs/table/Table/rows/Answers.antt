@@ -4,8 +4,8 @@ use Rattle.model.specs.Tables.{table_in}
 use Rattle.model.proofs.TableFiles.{file_in}
 use Rattle.tables.proofs.table.Table.rows.Goals as goal
 
-pub overflow-sub-result : goal.overflow-sub-result
-overflow-sub-result c = omega (arith, (file_in c.args.self.now.file.now c.args.self.now.ok).head)
+pub overflow_sub-result : goal.overflow_sub-result
+overflow_sub-result c = omega (arith, (file_in c.args.self.now.file.now c.args.self.now.ok).head)
 
 pub returns : goal.returns
 returns c =

@@ -13,31 +13,31 @@ by_next : (row : List ℤ) (o : Option (List ℕ)) (ns : List ℕ) (d : Option (
 by_next row o ns d e f s =
     ap (by_row (take 1 row)) (sym e) ∙ ap (from (take 1 row) ns) (first_getD row ∙ sym (to_z-of_z w32 (get_or row 0 (pos 0)) f)) ∙ sym s
 
-pub returns-in-err-may-step : goal.returns-in-err-may-step
-returns-in-err-may-step c =
-    let p = err_from_is_err_and c.from-residual.result c.from-residual.ensures.1 in
+pub returns-in_err-may_step : goal.returns-in_err-may_step
+returns-in_err-may_step c =
+    let p = err_from_is_err_and c.from_residual.result c.from_residual.ensures.1 in
     let A = table_automaton (table_in c.args.self.now.file.now) in
     let e : Event = record { moment = c.args.moment; call = c.args.call; args = c.args.-args.now; answer = c.args.-answer } in
-    let h = step_refused A e c.args.row.now c.in-err-may-step.field-0.0 c.in-err-may-step.ensures in
+    let h = step_refused A e c.args.row.now c.in_err-may_step.field-0.0 c.in_err-may_step.ensures in
     record { answer = p.1 ∙ ap Err p.2 ∙ h.0; row = h.1 }
 
-pub returns-in-default : goal.returns-in-default
-returns-in-default c =
+pub returns-in_default : goal.returns-in_default
+returns-in_default c =
     let A = table_automaton (table_in c.args.self.now.file.now) in
     let e : Event = record { moment = c.args.moment; call = c.args.call; args = c.args.-args.now; answer = c.args.-answer } in
     let row = c.args.row.now in
-    let h = step_allowed A e row c.in-ok-may-step.ensures in
-    let q = ap (by_row (take 1 row)) (sym c.in-default.ensures.value) in
+    let h = step_allowed A e row c.in_ok-may_step.ensures in
+    let q = ap (by_row (take 1 row)) (sym c.in_default.ensures.value) in
     record { answer = h.answer (Some (take 1 row)) q; row = sym (first_same row) ∙ h.after (Some (take 1 row)) q }
 
-pub returns-in-default-next-state : goal.returns-in-default-next-state
-returns-in-default-next-state c =
+pub returns-in_default-next_state : goal.returns-in_default-next_state
+returns-in_default-next_state c =
     let A = table_automaton (table_in c.args.self.now.file.now) in
     let e : Event = record { moment = c.args.moment; call = c.args.call; args = c.args.-args.now; answer = c.args.-answer } in
     let row = c.args.row.now in
-    let h = step_allowed A e row c.in-ok-may-step.ensures in
+    let h = step_allowed A e row c.in_ok-may_step.ensures in
     let f : SFits w32 (get_or row 0 (pos 0)) = search rules in
-    let q = by_next row _ _ None c.in-Some.ensures.value f (c.in-default-next-state.ensures (take 1 row)) in
+    let q = by_next row _ _ None c.in-Some.ensures.value f (c.in_default-next_state.ensures (take 1 row)) in
     record { answer = h.answer None q; row = h.after None q }
 
 pub returns : goal.returns
@@ -45,10 +45,10 @@ returns c =
     let A = table_automaton (table_in c.args.self.now.file.now) in
     let e : Event = record { moment = c.args.moment; call = c.args.call; args = c.args.-args.now; answer = c.args.-answer } in
     let row = c.args.row.now in
-    let h = step_allowed A e row c.in-ok-may-step.ensures in
+    let h = step_allowed A e row c.in_ok-may_step.ensures in
     let f : SFits w32 (get_or row 0 (pos 0)) = search rules in
     let g : SFits w32 c.from.result = search rules in
-    let d = set (take 1 row) 0 (pos c.in-Some-next-state.next) in
-    let q = by_next row _ _ (Some d) c.in-Some.ensures.value f (c.in-Some-next-state.ensures (take 1 row)) in
+    let d = set (take 1 row) 0 (pos c.in-Some-next_state.next) in
+    let q = by_next row _ _ (Some d) c.in-Some.ensures.value f (c.in-Some-next_state.ensures (take 1 row)) in
     let v = to_z-of_z w32 c.from.result g ∙ c.from.ensures in
     record { answer = h.answer (Some d) q; row = ap (set row 0) v ∙ first_set row _ (omega (arith, h.roomy.room)) ∙ h.after (Some d) q }
