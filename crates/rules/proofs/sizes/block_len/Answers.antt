@@ -6,14 +6,14 @@ use Rattle.rules.specs.Views.{rule_view}
 use Rattle.rules.proofs.Shown.{next_rule, no_rules}
 use Rattle.rules.proofs.Lengths.{rules_size, expr_size, size_for, size_other, block_size_none, block_size_some}
 use Rattle.rules.proofs.sizes.block_len.Goals as goal
-use Rattle.rules.proofs.sizes.block_len.Goals.{then-is-for, else-is-for}
+use Rattle.rules.proofs.sizes.block_len.Goals.{then-is_for, else-is_for}
 
 pub loop-rest-preserved : goal.loop-rest-preserved
 loop-rest-preserved c =
     let k = c.first_rule-r.ensures.less in
     let h = c.loop-rest.invariant.0 in
     elim c.if-is_for.branch [
-      | then-is-for w ↦
+      | then-is_for w ↦
           let s = w.updates_len.ensures.small in
           let z = w.len-is in (
             omega arith,
@@ -27,7 +27,7 @@ loop-rest-preserved c =
                 let q = i.2 in
                 (x.more, x.written, omega arith),
           )
-      | else-is-for w ↦
+      | else-is_for w ↦
           let z = w.len-is in (
             omega arith,
             λ n rs v.

@@ -9,7 +9,7 @@ use Rattle.rules.specs.Views.{rule_view, WrittenUpdates}
 use Rattle.rules.proofs.Shown.{next_rule, no_rules}
 use Rattle.rules.proofs.Acts.{going, for_it, for_other, going_on, acts}
 use Rattle.rules.proofs.steps.search.Goals as goal
-use Rattle.rules.proofs.steps.search.Goals.{then-is-for+else-not-equal, else-is-for}
+use Rattle.rules.proofs.steps.search.Goals.{then-is_for+else-not-equal, else-is_for}
 
 pub loop-rest-init : goal.loop-rest-init
 loop-rest-init c rs v = (rs, v, refl)
@@ -36,7 +36,7 @@ loop-rest-preserved c rs v =
     let i = c.loop-rest.invariant rs v in
     let x = next_rule c.args.width c.loop-rest.rest.now i.0 (rule_view c.first_rule-r.result) i.1 (omega arith) c.first_rule-r.ensures.parts in
     elim c.if-is_for.branch [
-      | then-is-for+else-not-equal w ↦
+      | then-is_for+else-not-equal w ↦
           let m = ap₂ (λ a b. eqb a c.args.call && same_moment b c.args.moment) (sym x.call) (sym x.moment) ∙ sym w.if-is_for.ensures in
           let k = ap arguments (same_moment_true x.first.moment c.args.moment (and_parts _ _ m).1) ∙ sym w.arguments.ensures in
           let g : SFits w32 w.evaluate.result = search rules in
@@ -49,7 +49,7 @@ loop-rest-preserved c rs v =
                 ∙ going_on c.args.args.now c.args.cells.now x.first (rules_of x.more c.args.call c.args.moment) c.loop-rest.none z
                 ∙ ap (λ b. going b c.args.args.now c.args.cells.now (rules_of x.more c.args.call c.args.moment)) (sym w.none-is),
           )
-      | else-is-for w ↦
+      | else-is_for w ↦
           let m = ap₂ (λ a b. eqb a c.args.call && same_moment b c.args.moment) (sym x.call) (sym x.moment) ∙ sym w.if-is_for.ensures in (
             x.more,
             x.written,

@@ -15,7 +15,7 @@ use Rattle.rules.proofs.Acts.{for_it, for_other}
 use Rattle.rules.proofs.Lengths.{rules_size, expr_size, updates_placed, length_rules, block_none, block_some, block_as_long, rule_first}
 use Rattle.rules.proofs.Wrote.{Wrote, wrote_none, wrote_more, wrote_all}
 use Rattle.rules.proofs.writer.write_rules.Goals as goal
-use Rattle.rules.proofs.writer.write_rules.Goals.{then-is-for, else-is-for}
+use Rattle.rules.proofs.writer.write_rules.Goals.{then-is_for, else-is_for}
 
 pub returns-then-left-eq0 : goal.returns-then-left-eq0
 returns-then-left-eq0 c rs v h g =
@@ -42,7 +42,7 @@ loop-rest-preserved c rs v h g e =
     let whole = emit_rules f (rules_of rs k t) in
     let P = rules_of x.more k t in
     elim c.if-is_for.branch [
-      | then-is-for w ↦
+      | then-is_for w ↦
           let m = ap₂ (λ a b. eqb a k && same_moment b t) (sym x.call) (sym x.moment) ∙ sym w.if-is_for.ensures in
           let j = ap arguments (same_moment_true x.first.moment t (and_parts _ _ m).1) ∙ sym w.arguments.ensures in
           let q = ap (λ vs. rules_of vs k t) x.all ∙ for_it k t x.first x.more m in
@@ -64,7 +64,7 @@ loop-rest-preserved c rs v h g e =
           (subst (λ b. Wrote area 0 whole b c.loop-rest.to c.loop-rest.area) code i.4) w.put_rule-to.result w.put_rule-to.new.area
           (w.put_rule-to.ensures x.first.guard x.first.updates x.guard gv us h (omega arith) (omega arith)) in
           (x.more, x.written, w.left-is ∙ left, omega arith, rw (w.to-is, w.area-is) one)
-      | else-is-for w ↦
+      | else-is_for w ↦
           let m = ap₂ (λ a b. eqb a k && same_moment b t) (sym x.call) (sym x.moment) ∙ sym w.if-is_for.ensures in
           let q = ap (λ vs. rules_of vs k t) x.all ∙ for_other k t x.first x.more m in (
             x.more,

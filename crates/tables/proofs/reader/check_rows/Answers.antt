@@ -3,7 +3,7 @@ use Rattle.std.proofs.lemmas.Result.{err_from_is_err_and}
 use Rattle.tables.specs.Reading.{rows_answer}
 use Rattle.tables.proofs.TableReading.{rows_end, rows_broken, rows_many, rows_bad, rows_more}
 use Rattle.tables.proofs.reader.check_rows.Goals as goal
-use Rattle.tables.proofs.reader.check_rows.Goals.{then-left-eq0-via-then-left-eq0, then-left-eq0-via-else-left-eq0+then-not-is-row}
+use Rattle.tables.proofs.reader.check_rows.Goals.{then-left-eq0-via-then-left-eq0, then-left-eq0-via-else-left-eq0+then-not-is_row}
 
 pub returns-in_err-row : goal.returns-in_err-row
 returns-in_err-row c =
@@ -20,7 +20,7 @@ returns-then-left-eq0 c =
     let e = c.in_ok-row.ensures.value in
     elim c.then-left-eq0.branch [
       | then-left-eq0-via-then-left-eq0 w ↦ rows_many n at f row e c.loop-at-test.true ∙ ap (λ m. rows_answer m n at f) (sym w.if-left-eq0.true) ∙ c.loop-at.invariant
-      | then-left-eq0-via-else-left-eq0+then-not-is-row w ↦ rows_bad n at f row e c.loop-at.left c.loop-at-test.true (sym w.if-not-is_row.ensures) ∙ c.loop-at.invariant
+      | then-left-eq0-via-else-left-eq0+then-not-is_row w ↦ rows_bad n at f row e c.loop-at.left c.loop-at-test.true (sym w.if-not-is_row.ensures) ∙ c.loop-at.invariant
     ]
 
 pub loop-at-preserved : goal.loop-at-preserved

@@ -2,14 +2,14 @@ use Rattle.std.proofs.Common.{◌≡◌, true, false, length, get_or, drop, sym,
 use Rattle.std.proofs.lemmas.Bool.{ne_eqb, eq-eqb}
 use Rattle.tables.proofs.TableRows.{states_size, size_at, size_end}
 use Rattle.tables.proofs.table.block_size.Goals as goal
-use Rattle.tables.proofs.table.block_size.Goals.{then_next, else-next}
+use Rattle.tables.proofs.table.block_size.Goals.{then-next, else-next}
 
 pub loop-next-preserved : goal.loop-next-preserved
 loop-next-preserved c =
     let ns = c.args.nexts.now in
     let n = size_at ns c.loop-next.next-index c.loop-next-test.true in
     elim c.if-next.branch [
-      | then_next w ↦ let m = rw (ne_eqb _ _ w.if-next.true) at n in (omega (arith, w.n-is), omega (arith, w.n-is, m))
+      | then-next w ↦ let m = rw (ne_eqb _ _ w.if-next.true) at n in (omega (arith, w.n-is), omega (arith, w.n-is, m))
       | else-next w ↦ let m = rw w.if-next.false at n in (omega (arith, w.n-is), omega (arith, w.n-is, m))
     ]
 

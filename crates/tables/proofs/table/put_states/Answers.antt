@@ -2,7 +2,7 @@ use Rattle.std.proofs.Common.{◌≡◌, ℕ, ◌+◌, ◌-◌, ◌*◌, ◌<◌
 use Rattle.std.proofs.lemmas.Bool.{ne_eqb}
 use Rattle.tables.proofs.TableRows.{row_size, states_size, size_at, size_end, Written, start, without, with_next, finish, seven}
 use Rattle.tables.proofs.table.put_states.Goals as goal
-use Rattle.tables.proofs.table.put_states.Goals.{then_next, else-next}
+use Rattle.tables.proofs.table.put_states.Goals.{then-next, else-next}
 
 pub loop-q-init : goal.loop-q-init
 loop-q-init c =
@@ -28,7 +28,7 @@ loop-q-preserved c =
     let ns = c.args.nexts.now in
     let q = c.loop-q.q in
     elim c.if-next.branch [
-      | then_next w ↦
+      | then-next w ↦
           let s = seven ns q c.loop-q.left c.loop-q-test.true w.if-next.true c.loop-q.invariant.2.count in
           let p = rw w.state_tests.ensures at w.put_all.ensures in
           let k = states_size c.args.first 0 ns in (

@@ -19,4 +19,8 @@ invariant_of-result c =
     let n = length (rules_in f).starts in
     let w = c.rules_of.ensures.value in
     let i = c.of-index.ensures in
-    (c.requires, (λ k t h. i.firsts n rs w k t h ∙ ap (first_place rs k t) p, (λ k t h. i.lasts n rs w k t h ∙ ap (λ q. last_place rs k t q (length f)) p, tt)))
+    record {
+      ok = c.requires;
+      firsts = λ k t h. i.firsts n rs w k t h ∙ ap (first_place rs k t) p;
+      lasts = λ k t h. i.lasts n rs w k t h ∙ ap (λ q. last_place rs k t q (length f)) p;
+    }

@@ -4,7 +4,7 @@ use Rattle.model.proofs.TableFiles.{reads_if, refused_if, refusing_reads, refusi
 use Rattle.tables.proofs.table.Table.new.Goals as goal
 
 pub invariant_of-result : goal.invariant_of-result
-invariant_of-result c = (ap reads_table c.refusing_file.ensures ∙ refusing_reads, tt)
+invariant_of-result c = record { ok = ap reads_table c.refusing_file.ensures ∙ refusing_reads }
 
 pub returns-then-is_err : goal.returns-then-is_err
 returns-then-is_err c =
@@ -14,7 +14,7 @@ returns-then-is_err c =
     }
 
 pub invariant_of-result-2 : goal.invariant_of-result-2
-invariant_of-result-2 c = (reads_if c.args.file.now c.check.result c.check.ensures (sym c.is_err.ensures.value ∙ c.if-is_err.false), tt)
+invariant_of-result-2 c = record { ok = reads_if c.args.file.now c.check.result c.check.ensures (sym c.is_err.ensures.value ∙ c.if-is_err.false) }
 
 pub returns : goal.returns
 returns c = record { value = refl; refusing = refuses_calls }

@@ -17,14 +17,14 @@ pub returns-in_err-may_step : goal.returns-in_err-may_step
 returns-in_err-may_step c =
     let p = err_from_is_err_and c.from_residual.result c.from_residual.ensures.1 in
     let A = table_automaton (table_in c.args.self.now.file.now) in
-    let e : Event = record { moment = c.args.moment; call = c.args.call; args = c.args.-args.now; answer = c.args.-answer } in
+    let e : Event = record { moment = c.args.moment; call = c.args.call; args = c.args._args.now; answer = c.args._answer } in
     let h = step_refused A e c.args.row.now c.in_err-may_step.field-0.0 c.in_err-may_step.ensures in
     record { answer = p.1 ∙ ap Err p.2 ∙ h.0; row = h.1 }
 
 pub returns-in_default : goal.returns-in_default
 returns-in_default c =
     let A = table_automaton (table_in c.args.self.now.file.now) in
-    let e : Event = record { moment = c.args.moment; call = c.args.call; args = c.args.-args.now; answer = c.args.-answer } in
+    let e : Event = record { moment = c.args.moment; call = c.args.call; args = c.args._args.now; answer = c.args._answer } in
     let row = c.args.row.now in
     let h = step_allowed A e row c.in_ok-may_step.ensures in
     let q = ap (by_row (take 1 row)) (sym c.in_default.ensures.value) in
@@ -33,7 +33,7 @@ returns-in_default c =
 pub returns-in_default-next_state : goal.returns-in_default-next_state
 returns-in_default-next_state c =
     let A = table_automaton (table_in c.args.self.now.file.now) in
-    let e : Event = record { moment = c.args.moment; call = c.args.call; args = c.args.-args.now; answer = c.args.-answer } in
+    let e : Event = record { moment = c.args.moment; call = c.args.call; args = c.args._args.now; answer = c.args._answer } in
     let row = c.args.row.now in
     let h = step_allowed A e row c.in_ok-may_step.ensures in
     let f : SFits w32 (get_or row 0 (pos 0)) = search rules in
@@ -43,7 +43,7 @@ returns-in_default-next_state c =
 pub returns : goal.returns
 returns c =
     let A = table_automaton (table_in c.args.self.now.file.now) in
-    let e : Event = record { moment = c.args.moment; call = c.args.call; args = c.args.-args.now; answer = c.args.-answer } in
+    let e : Event = record { moment = c.args.moment; call = c.args.call; args = c.args._args.now; answer = c.args._answer } in
     let row = c.args.row.now in
     let h = step_allowed A e row c.in_ok-may_step.ensures in
     let f : SFits w32 (get_or row 0 (pos 0)) = search rules in
