@@ -11,6 +11,11 @@ pub given_by : {X : Type 0} (b : Bool) (x y : X) → Some y ≡ cond b (Some x) 
 given_by true x y e = (refl, cc)
 given_by false x y e = absurd (let z : ◌≡◌ {A = ℕ} 0 1 = cc in omega arith)
 
+-- no number was given since a test fails
+pub not_given : {X : Type 0} (b : Bool) (x : X) → None ≡ cond b (Some x) None → b ≡ false
+not_given true x e = absurd (let z : ◌≡◌ {A = ℕ} 0 1 = cc in omega arith)
+not_given false x e = refl
+
 -- three bytes from a place on
 pub three : (xs : List ℕ) (i : ℕ) → i + 3 ≤ length xs → drop i xs ≡ get_or xs i 0 ∷ get_or xs (i + 1) 0 ∷ get_or xs (i + 2) 0 ∷ drop (i + 3) xs
 three xs i h =
@@ -70,3 +75,6 @@ module _ (n a : ℕ) where
         omega arith,
         sym (b.1 ∙ ap (λ b. b && well_held (after d t) (tokens n a (drop 3 (drop i xs)))) f ∙ ap (λ r. well_held (after d t) (tokens n a r)) (drop-drop 3 i xs)),
       )
+
+  pub held_over : (d : ℕ) (xs : List ℕ) (i : ℕ) (t : Token) → first_token n a (drop i xs) ≡ Some t → room d t ≡ false → well_held d (tokens n a (drop i xs)) ≡ false
+  held_over d xs i t e f = (by_first d (drop i xs) t e).1 ∙ ap (λ b. b && well_held (after d t) (tokens n a (drop 3 (drop i xs)))) f

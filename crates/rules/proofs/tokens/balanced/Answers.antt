@@ -2,12 +2,17 @@ use Rattle.std.proofs.Common.{◌≡◌, ◌+◌, drop, sym, ap, ◌∙◌}
 use Rattle.std.proofs.lemmas.List.{at_drop_all}
 use Rattle.model.specs.Rules.{tokens}
 use Rattle.rules.specs.Tokens.{meant, well_held, room, after}
-use Rattle.rules.proofs.Expressions.{given_by, held_none, held_more}
+use Rattle.rules.proofs.Expressions.{given_by, not_given, held_none, held_more, held_over}
 use Rattle.rules.proofs.tokens.balanced.Goals as goal
 
 pub returns-in_default : goal.returns-in_default
 returns-in_default c =
     sym (held_none c.args.cells c.args.arguments c.loop-i.d c.args.c.now c.loop-i.i c.loop-i-test.true (sym c.in_default.ensures)) ∙ c.loop-i.invariant.1
+
+pub returns-in_default-held : goal.returns-in_default-held
+returns-in_default-held c =
+    let g = not_given (room c.loop-i.d (meant c.in-Some.t)) (after c.loop-i.d (meant c.in-Some.t)) c.in_default-held.ensures in
+    sym (held_over c.args.cells c.args.arguments c.loop-i.d c.args.c.now c.loop-i.i (meant c.in-Some.t) (sym c.in-Some.ensures) g) ∙ c.loop-i.invariant.1
 
 pub loop-i-preserved : goal.loop-i-preserved
 loop-i-preserved c =
