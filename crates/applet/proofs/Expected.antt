@@ -1,10 +1,8 @@
 -- A field that is due at a place of a file, as the model expects it there.
-use Rattle.std.proofs.Common.{◌≡◌, ℕ, zero, suc, ◌+◌, ◌-◌, ◌<◌, ◌≤◌, Bool, true, false, cond, ◌&&◌, ◌||◌, eqb, ltb, leb, List, [], ◌∷◌, length, get_or, take, drop, Ok, Err, sym, refl, ap, ◌∙◌, subst, ap₂, suc-add, arith, length-drop, length-take}
-use Rattle.std.proofs.lemmas.List.{drop_all, drop_more, drop-drop}
-use Rattle.std.proofs.lemmas.Bool.{leb-true, leb-false, le-leb, lt-leb, lt-ltb, le-ltb, ltb-true, ltb-false, eqb-true}
-use Rattle.model.specs.declared.Refusal.{Refusal}
+use Rattle.std.proofs.Common.{◌≡◌, ℕ, ◌+◌, ◌-◌, ◌<◌, ◌≤◌, Bool, true, false, cond, ◌&&◌, eqb, ltb, leb, List, [], ◌∷◌, length, get_or, drop, Ok, sym, refl, ap, ◌∙◌, ap₂, arith, length-drop, length-take}
+use Rattle.std.proofs.lemmas.List.{drop_more, drop-drop}
+use Rattle.std.proofs.lemmas.Bool.{leb-true, leb-false, le-leb, lt-leb, ltb-true, ltb-false, eqb-true}
 use Rattle.model.specs.declared.Refusal.TheVariants.{BadField}
-use Rattle.model.specs.Words.{word}
 use Rattle.model.specs.Fields.{Read, Part, refuse, expect, standing, behind, Standing, nothing, broken, found, announced, contents_at, a_tag}
 use Rattle.tlv.specs.Parts.{Due, contents, missing, due}
 use Rattle.applet.specs.Stages.{due_at}

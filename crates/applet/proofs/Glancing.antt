@@ -1,8 +1,8 @@
 -- What passes the quick test of an instruction reads.
-use Rattle.std.proofs.Common.{◌≡◌, ℕ, zero, suc, ◌<◌, ◌≢◌, List, [], ◌∷◌, length, get_or, set, replicate, Some, sym, refl, ap, ◌∙◌, subst, ⊎_elim, arith, get_or-set_other, get_or-set_same}
+use Rattle.std.proofs.Common.{◌≡◌, ℕ, zero, suc, ◌<◌, List, length, get_or, set, replicate, Some, sym, refl, ap, ◌∙◌, subst, ⊎_elim, arith, get_or-set_other, get_or-set_same}
 use Rattle.std.proofs.lemmas.Bool.{cases_eq}
 use Rattle.std.specs.Option.{option_map}
-use Rattle.model.specs.Words.{Quad, word, find, table}
+use Rattle.model.specs.Words.{word, find, table}
 use Rattle.applet.specs.declared.glance.Glance.{Glance}
 use Rattle.opcodes.specs.Table.{Row, ranges}
 use Rattle.applet.specs.Glances.{Sees, Seen, blind}

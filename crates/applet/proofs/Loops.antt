@@ -1,9 +1,8 @@
 -- What the reader's loops keep, over plain lists.
-use Rattle.std.proofs.Common.{◌≡◌, ℕ, zero, suc, ◌+◌, ◌-◌, ◌*◌, ◌/◌, ◌%◌, ◌<◌, ◌≤◌, min, Bool, true, false, cond, ◌&&◌, ltb, leb, ◌≢◌, List, [], ◌∷◌, ◌++◌, map, length, get_or, take, drop, set, Some, None, Ok, Err, sym, refl, ap, ◌∙◌, ap₂, append_assoc, append-nil, suc-add, add-one, arith, length-drop, length-take, take_all, get_or-set_other, get_or-set_same, take-suc-set, below_more}
+use Rattle.std.proofs.Common.{◌≡◌, ℕ, zero, suc, ◌+◌, ◌-◌, ◌*◌, ◌/◌, ◌<◌, ◌≤◌, min, Bool, true, false, ◌&&◌, ltb, leb, ◌≢◌, List, [], ◌∷◌, ◌++◌, map, length, get_or, take, drop, set, Some, None, Ok, Err, sym, refl, ap, ◌∙◌, ap₂, append_assoc, append-nil, suc-add, add-one, arith, length-drop, length-take, take_all, get_or-set_other, get_or-set_same, take-suc-set, below_more}
 use lib.Seq.{take-nil}
 use Rattle.std.proofs.lemmas.List.{at_drop_more, at_drop_all, drop_all}
 use Rattle.std.proofs.lemmas.Bool.{lt-ltb, le-ltb, leb-true, leb-false}
-use Rattle.std.proofs.lemmas.Bool.Decides.{nat_tests}
 use Rattle.model.specs.declared.Refusal.{Refusal}
 use Rattle.model.specs.declared.Refusal.TheVariants.{BadField}
 use Rattle.model.specs.Fields.{Bytes, Read, every, standing, behind}

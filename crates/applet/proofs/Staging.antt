@@ -1,11 +1,10 @@
 -- The reading of an applet place by place is the model's reading.
-use Rattle.std.proofs.Common.{◌≡◌, ℕ, zero, suc, ◌+◌, ◌-◌, ◌*◌, ◌/◌, ◌%◌, ◌<◌, ◌≤◌, min, Bool, true, false, cond, ◌&&◌, eqb, ltb, leb, List, [], ◌∷◌, ◌++◌, map, length, get_or, take, drop, Some, None, Ok, Err, Option, sym, refl, ap, ◌∙◌, subst, ap₂, arith, length-drop, length-take, take_all}
+use Rattle.std.proofs.Common.{◌≡◌, ℕ, zero, suc, ◌+◌, ◌*◌, ◌/◌, ◌%◌, ◌<◌, min, Bool, true, false, cond, ◌&&◌, eqb, ltb, leb, List, [], ◌∷◌, map, length, get_or, take, drop, Some, None, Ok, Err, Option, sym, refl, ap, ◌∙◌, subst, ap₂, arith, length-drop, length-take}
 use lib.ListN.{length-map}
 use Rattle.std.proofs.lemmas.List.{drop_all}
 use Rattle.std.proofs.lemmas.Bool.{leb-true, leb-false, eqb-true, and_parts}
 use Rattle.model.specs.declared.Instr.{Instr}
-use Rattle.model.specs.declared.Refusal.{Refusal}
-use Rattle.model.specs.declared.Refusal.TheVariants.{BadField, BadSize, BadInstruction, BadLanding}
+use Rattle.model.specs.declared.Refusal.TheVariants.{BadField, BadSize, BadLanding}
 use Rattle.model.specs.Words.{Quad, quads, signed_of, decode, lands}
 use Rattle.model.specs.Machine as machine
 use Rattle.model.specs.Fields.{Read, Field, Part, refuse, need, ◌>>=◌, ◌>>◌, within, every, items, next, expect, over, standing, behind, contents_at}
@@ -13,7 +12,7 @@ use Rattle.model.proofs.Fetching.{code_place_more}
 use Rattle.model.specs.Reading.{code_place, method_place, landed, read_code, read_codes, code_fields, read_applet}
 use Rattle.tlv.specs.Parts.{Due, contents, missing}
 use Rattle.opcodes.specs.Judging.{passed}
-use Rattle.applet.specs.Stages.{Found, head_of, entries_of, cells_of, method_of, due_at, ended, one_more, places_from, judged, code_judged, codes_judged, both_pass, staged, from_head, from_entries, from_cells, from_places, from_codes}
+use Rattle.applet.specs.Stages.{Found, head_of, entries_of, cells_of, method_of, due_at, one_more, places_from, judged, code_judged, codes_judged, both_pass, staged, from_head, from_entries, from_cells, from_places, from_codes}
 use Rattle.applet.specs.Applets.{or_end, code_in, laid_out, nth}
 use Rattle.model.proofs.Accepted.{err_ok}
 use Rattle.applet.proofs.Loops.{take_min, length_quads}

@@ -5,7 +5,7 @@ use Rattle.model.specs.declared.Instr.{Instr}
 use Rattle.model.specs.declared.Own.{Own}
 use Rattle.model.specs.declared.Refusal.{Refusal}
 use Rattle.model.specs.Machine as machine
-use Rattle.model.specs.Words.{Quad, quads, signed_of, decode}
+use Rattle.model.specs.Words.{quads, signed_of, decode}
 use Rattle.model.specs.Fields.{Read, contents_at}
 use Rattle.model.specs.Reading.{Valid, write_applet, method_place}
 use Rattle.applet.specs.declared.reader.Layout.{Layout}

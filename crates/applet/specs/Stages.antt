@@ -1,9 +1,8 @@
 -- The reading of an applet as the code goes about it: field by field from place to place, then instruction by instruction.
-use Rattle.std.specs.Prelude.{ℕ, zero, suc, ◌+◌, ◌*◌, ◌/◌, Bool, cond, not, ◌&&◌, ◌||◌, List, [], ◌∷◌, ◌++◌, length, take, Some, None, Ok, Err, Option, Result, ◌==◌, nat_le, nat_lt, slice_index}
+use Rattle.std.specs.Prelude.{ℕ, zero, suc, ◌+◌, ◌*◌, ◌/◌, cond, ◌&&◌, List, [], ◌∷◌, ◌++◌, length, take, Ok, Err, Result, ◌==◌, nat_le, nat_lt, slice_index}
 use Rattle.model.specs.declared.Refusal.{Refusal}
-use Rattle.model.specs.declared.Instr.{Instr}
-use Rattle.model.specs.declared.Refusal.TheVariants.{BadField, BadSize, BadInstruction, BadLanding}
-use Rattle.model.specs.Words.{Quad, quads, decode, leads}
+use Rattle.model.specs.declared.Refusal.TheVariants.{BadField, BadSize}
+use Rattle.model.specs.Words.{Quad, quads, decode}
 use Rattle.model.specs.Fields.{Read, refuse, within, every, items, contents_at, standing, behind}
 use Rattle.model.specs.Reading.{landed}
 use Rattle.tlv.specs.Parts.{Due, contents, missing, due}

@@ -1,4 +1,6 @@
 // Applet files: the reader, and what an applet shows of its file.
+#![tactic(auto)]
+
 mod glance;
 mod reader;
 

@@ -1,5 +1,7 @@
 // Tests of the applet reader. What is expected is worked out by hand from docs/FORMAT.md and
 // docs/REFUSALS.md.
+#![tactic(auto)]
+
 #[cfg(test)]
 mod files;
 #[cfg(test)]

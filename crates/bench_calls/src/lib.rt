@@ -1,5 +1,7 @@
 // The reader, weaving, and steps of policies and machines, for programs in other languages, as the benchmarks
 // call them.
+#![tactic(auto)]
+
 ghost use Rattle.std.specs.Prelude.{◌≡◌};
 ghost use Rattle.model.specs.Reading.{read_applet};
 ghost use Rattle.bench_calls.specs.Answers.{number_of, place_of};

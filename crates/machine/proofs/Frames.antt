@@ -1,13 +1,12 @@
 -- Registers and frames as lists.
-use Rattle.std.proofs.Common.{◌≡◌, ℕ, zero, suc, ◌+◌, ◌-◌, ◌<◌, ◌≤◌, min, Bool, true, false, ltb, ◌≢◌, List, [], ◌∷◌, ◌++◌, length, get_or, take, set, ℤ, pos, sym, refl, ap, ◌∙◌, arith, get_or-set_other, get_or-set_same}
+use Rattle.std.proofs.Common.{◌≡◌, ℕ, zero, suc, ◌+◌, ◌<◌, ◌≤◌, min, true, ltb, ◌≢◌, List, [], ◌∷◌, ◌++◌, length, get_or, take, set, ℤ, pos, refl, ap, arith, get_or-set_other, get_or-set_same}
 use Rattle.std.proofs.lemmas.Bool.{lt-ltb}
-use Rattle.model.specs.Machine as model
 use Rattle.model.specs.Machine.{zeros, return, reg}
 use Rattle.model.specs.declared.Status.{Status}
 use Rattle.model.specs.declared.Outcome.{Outcome}
 use Rattle.machine.specs.declared.threads.Frame.{Frame}
 use Rattle.machine.specs.declared.threads.Thread.{Thread}
-use Rattle.machine.specs.Views.{waiting, index_of, no_frame, caller_of, callers_of, thread_of}
+use Rattle.machine.specs.Views.{waiting, no_frame, caller_of, callers_of, thread_of}
 
 -- what holds of every eight numbers holds of a list of eight
 pub eight : (P : List ℤ → Type 0) → ((a b c d e f g h : ℤ) → P (a ∷ b ∷ c ∷ d ∷ e ∷ f ∷ g ∷ h ∷ [])) → (xs : List ℤ) → length xs ≡ 8 → P xs

@@ -1,5 +1,5 @@
 -- Threads in the list of them, and the machine after a step of one.
-use Rattle.std.proofs.Common.{◌≡◌, ℕ, zero, suc, ◌+◌, ◌-◌, ◌<◌, ◌≤◌, min, Bool, true, false, cond, ltb, List, [], ◌∷◌, ◌++◌, map, length, get_or, take, drop, set, ℤ, pos, IfOk, Some, None, Ok, Err, Option, Result, sym, refl, ap, ◌∙◌, arith}
+use Rattle.std.proofs.Common.{◌≡◌, ℕ, zero, suc, ◌+◌, ◌<◌, ◌≤◌, min, Bool, true, false, ltb, List, [], ◌∷◌, ◌++◌, length, get_or, take, drop, set, ℤ, pos, IfOk, Some, None, Ok, Err, Result, sym, refl, ap, ◌∙◌, arith}
 use Rattle.model.specs.declared.Refusal.{Refusal}
 use Rattle.machine.specs.declared.threads.Stand.{Stand}
 use Rattle.model.specs.Policy.{Turn}
@@ -7,7 +7,6 @@ use Rattle.model.specs.Machine as model
 use Rattle.model.specs.Machine.{holds, lock_step, unlock_step, test_step, own_step, onward, with_status, with_top, goto, reg}
 use Rattle.model.specs.Runs.{after}
 use Rattle.model.specs.declared.Outcome.{Outcome}
-use Rattle.model.specs.declared.Reason.{Reason}
 use Rattle.model.specs.declared.Status.{Status}
 use Rattle.applet.specs.Applets.{nth}
 use Rattle.machine.specs.declared.threads.Thread.{Thread}

@@ -1,5 +1,5 @@
 -- Operands that name a register, a shared number, a cell, a scratch number or an argument that there is.
-use Rattle.std.specs.Prelude.{ℕ, ◌<◌}
+use Rattle.std.specs.Prelude.{◌<◌}
 use Rattle.model.specs.declared.Own.{Own}
 use Rattle.model.specs.declared.Own.TheVariants.{Set, Mov, Add, Sub, Lt, Eq, Get, Put, Jump, Brz, Call, Ret, Host, End}
 use Rattle.model.specs.declared.Test.{Test}

@@ -1,4 +1,6 @@
 // The machine that runs applets: load, step, answer.
+#![tactic(auto)]
+
 mod acts;
 mod code;
 mod fresh;

@@ -7,7 +7,7 @@ use Rattle.std.proofs.ByRecursion.{All-drop}
 use Rattle.std.proofs.lemmas.Int.{of_z-to_z}
 use Rattle.std.proofs.lemmas.Bool.{ltb-true, leb-true, eqb-true, and_parts, or_cases, cond_both, false≢true}
 use Rattle.model.specs.Words.{word, high, low, quads, signed_of}
-use Rattle.model.specs.Fields.{Bytes, Read, Field, refuse, ◌>>=◌, ◌>>◌, within, every, next, fields, tested, field}
+use Rattle.model.specs.Fields.{Bytes, Read, Field, refuse, within, every, next, fields, tested, field}
 use Rattle.model.specs.Tables.{Row, Table, row_field, row_in, read_rows, read_table, row_bytes, write_table, ValidRow, Apart, ValidTable}
 use Rattle.model.specs.Policy.{arguments}
 use Rattle.model.specs.Rules.{Token, constant, cell, argument, operator, Expr, Update, Rule, Rules, Raw, triples, update_field, rule_field, token}

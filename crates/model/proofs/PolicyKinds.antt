@@ -1,9 +1,9 @@
 -- A policy file is read by its kind.
-use Rattle.std.proofs.Common.{◌≡◌, ℕ, ◌≤◌, Bool, true, false, cond, ◌&&◌, eqb, leb, List, [], ◌∷◌, length, get_or, take, drop, Ok, Err, sym, refl, ap, ◌∙◌}
+use Rattle.std.proofs.Common.{◌≡◌, ℕ, Bool, true, false, leb, List, [], ◌∷◌, length, get_or, Ok, Err, refl}
 use Rattle.std.proofs.lemmas.Bool.{ne_eqb}
 use Rattle.model.specs.declared.Refusal.TheVariants.{BadPolicyField}
 use Rattle.model.specs.Fields.{Read, Part, need, expect, ◌>>=◌, ◌>>◌}
-use Rattle.model.specs.Rules.{Rules, read_rules}
+use Rattle.model.specs.Rules.{Rules}
 use Rattle.model.specs.Kinds.{Policy, rules, read_policy, policy_kind}
 
 -- a field of another tag is refused

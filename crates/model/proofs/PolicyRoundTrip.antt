@@ -10,7 +10,7 @@ use Rattle.model.specs.Fields.{Read, Field, ◌>>=◌, fields, field}
 use Rattle.model.specs.Tables.{Row, Table, row_field, read_rows, read_table, row_bytes, write_table, ValidRow, Apart, ValidTable}
 use Rattle.model.specs.Policy.{arguments}
 use Rattle.model.specs.Rules.{constant, cell, argument, operator, Expr, Update, Rule, Rules, Raw, triples, update_field, rule_field, tokens, both}
-use Rattle.model.specs.Rules.{balanced, checked, read_updates, read_rule, read_rule_list, read_rules, expr_bytes, update_bytes, rule_bytes}
+use Rattle.model.specs.Rules.{checked, read_updates, read_rule, read_rule_list, read_rules, expr_bytes, update_bytes, rule_bytes}
 use Rattle.model.specs.Rules.{write_rules, ValidToken, ValidExpr, ValidUpdate, ValidRule, ValidRules}
 use Rattle.model.specs.Moments.{moment_number}
 use Rattle.model.proofs.Moments.{moment_back, moment_small}

@@ -1,5 +1,5 @@
 -- The file of a rule policy: what stands where.
-use Rattle.std.proofs.Common.{◌≡◌, ℕ, zero, suc, ◌+◌, ◌*◌, ◌<◌, ◌≤◌, true, false, ◌&&◌, eqb, leb, List, [], ◌∷◌, ◌++◌, map, length, get_or, take, drop, is_ok, Ok, Err, sym, refl, ap, ◌∙◌, subst, ap₂, arith}
+use Rattle.std.proofs.Common.{◌≡◌, ℕ, ◌+◌, ◌*◌, ◌<◌, ◌≤◌, true, false, eqb, leb, List, map, length, get_or, take, drop, is_ok, Ok, Err, sym, refl, ap, ◌∙◌, subst, ap₂, arith}
 use lib.ListN.{length-map}
 use Rattle.std.specs.List.{flat_map}
 use Rattle.std.proofs.ByRecursion.{All-drop}
@@ -7,7 +7,7 @@ use Rattle.std.proofs.lemmas.List.{get_or-take, get_or-drop}
 use Rattle.std.proofs.lemmas.Bool.{false≢true, eqb-true}
 use Rattle.model.specs.Policy.{Showing}
 use Rattle.model.specs.declared.Refusal.TheVariants.{BadPolicyField}
-use Rattle.model.specs.Words.{quads, flat, signed_of}
+use Rattle.model.specs.Words.{quads, signed_of}
 use Rattle.model.specs.Fields.{Bytes, Read, announced, next, field, expect, fields, ◌>>=◌}
 use Rattle.model.specs.Rules.{Rules, read_rules, reads_rules, rules_in, rules_or_refusing, refusing_rules, rules_automaton, rules_block, rule_bytes, write_rules, ValidRules}
 use Rattle.model.proofs.Words.{length_flat, flat_quads}

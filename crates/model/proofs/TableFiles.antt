@@ -1,5 +1,5 @@
 -- The file of a state table: what stands where.
-use Rattle.std.proofs.Common.{◌≡◌, ℕ, zero, suc, ◌+◌, ◌*◌, ◌<◌, ◌≤◌, Bool, true, false, cond, ◌&&◌, ◌||◌, eqb, ltb, leb, ◌⊎◌, List, [], ◌∷◌, map, length, get_or, take, drop, ℤ, pos, negsuc, is_ok, is_err, Some, None, Ok, Err, sym, refl, ap, ◌∙◌, subst, ap₂, inl, inr, mul-le-mul_left, mul-zero, mul-suc, arith, length-drop}
+use Rattle.std.proofs.Common.{◌≡◌, ℕ, zero, suc, ◌+◌, ◌*◌, ◌<◌, ◌≤◌, true, false, ◌||◌, eqb, ltb, leb, ◌⊎◌, List, [], ◌∷◌, map, length, get_or, take, drop, ℤ, pos, negsuc, is_ok, is_err, Some, None, Ok, Err, sym, refl, ap, ◌∙◌, subst, inl, inr, mul-le-mul_left, mul-zero, mul-suc, arith, length-drop}
 use lib.ListN.{length-map}
 use Rattle.std.proofs.lemmas.List.{get_or-drop, get_or-take, get_or-map}
 use Rattle.std.proofs.lemmas.Bool.{false≢true, eqb-true, eq-eqb, ne_eqb, cases_eq}
@@ -7,8 +7,7 @@ use Rattle.model.specs.declared.Moment.{Moment}
 use Rattle.model.specs.declared.Refusal.{Refusal}
 use Rattle.model.specs.declared.Refusal.TheVariants.{BadPolicyField}
 use Rattle.model.specs.Policy.{Showing}
-use Rattle.model.specs.Fields.{Read, Part, Field, within, every, next, expect, fields, field, announced, contents_at, ◌>>=◌}
-use Rattle.model.specs.Parts.{Handed}
+use Rattle.model.specs.Fields.{Read, Field, within, every, next, expect, fields, field, announced, ◌>>=◌}
 use Rattle.model.specs.Tables.{Row, Table, row_field, row_in, read_rows, read_table, reads_table, table_in, table_or_refusing, refusing_table, ValidTable}
 use Rattle.model.specs.Tables.{table_automaton, table_block, row_of, by_row, from, write_table, table_answer, refusing_rows, RefusesCalls}
 use Rattle.model.proofs.Accepted.{err_ok, bound, needed}

@@ -7,7 +7,6 @@ use Rattle.model.specs.declared.Status.{Status}
 use Rattle.model.specs.declared.Reason.{Reason}
 use Rattle.model.specs.declared.Reason.TheVariants.{Finished, TooDeep, NotHolder}
 use Rattle.model.specs.declared.Own.{Own}
-use Rattle.model.specs.declared.Test.{Test}
 use Rattle.model.specs.declared.Instr.{Instr}
 use Rattle.model.specs.Policy.{eqZ, flag, Turn, turn}
 use Rattle.model.specs.declared.Refusal.TheVariants.{NoThread, NotAwaiting, StillAwaiting, ThreadEnded, MachineStopped, LockHeld}

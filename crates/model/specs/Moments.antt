@@ -2,7 +2,7 @@
 use Rattle.std.specs.Prelude.{ℕ, zero, suc, Bool, true, false, ◌&&◌, Ok, nat_le}
 use Rattle.model.specs.declared.Moment.{Moment}
 use Rattle.model.specs.declared.Refusal.TheVariants.{NoSuchEvent}
-use Rattle.model.specs.Fields.{Read, need, ◌>>=◌, ◌>>◌}
+use Rattle.model.specs.Fields.{Read, need, ◌>>◌}
 
 -- the number of a moment
 abbrev pub moment_number : Moment → ℕ

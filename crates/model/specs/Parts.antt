@@ -3,7 +3,7 @@ use Rattle.std.specs.Prelude.{◌≡◌, ℕ, ◌+◌, ◌*◌, ◌<◌, ◌≤�
 use Rattle.model.specs.declared.Instr.{Instr}
 use Rattle.model.specs.declared.Refusal.{Refusal}
 use Rattle.model.specs.Machine.{Applet}
-use Rattle.model.specs.Words.{word, quads, flat, quad_at, signed_of, quad_of, decode}
+use Rattle.model.specs.Words.{quads, flat, quad_at, signed_of, quad_of, decode}
 use Rattle.model.specs.Fields.{Bytes, announced, contents_at, Part, next, expect}
 use Rattle.model.specs.Reading.{read_applet, write_code, cells_place, method_place, instr_place}
 

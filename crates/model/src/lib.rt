@@ -1,5 +1,7 @@
 // What everything means: instructions, moments, outcomes and refusals as types; in specs/ the
 // formats, the machine, policies, weave, check and enforcement.
+#![tactic(auto)]
+
 ghost use Rattle.std.specs.Prelude.{◌≡◌};
 ghost use Rattle.model.specs.Refusals.{number, place};
 ghost use Rattle.model.specs.Moments.{moment_number};

@@ -1,5 +1,5 @@
 -- The instruction of four bytes, by the row of its opcode.
-use Rattle.std.proofs.Common.{◌≡◌, ℕ, ◌%◌, ◌<◌, Bool, true, false, cond, List, [], ◌∷◌, Some, None, Ok, Err, Option, sym, refl, ap, ◌∙◌, subst, ap₂, arith}
+use Rattle.std.proofs.Common.{◌≡◌, ℕ, ◌%◌, ◌<◌, Bool, true, false, cond, Some, None, Ok, Err, Option, sym, refl, ap, ◌∙◌, subst, ap₂, arith}
 use Rattle.std.specs.List.{AllByRecursion as All}
 use Rattle.std.specs.Option.{option_map}
 use Rattle.std.proofs.lemmas.Bool.{ltb-true, and_parts}
@@ -9,7 +9,7 @@ use Rattle.model.specs.declared.Instr.{Instr}
 use Rattle.model.specs.declared.Refusal.{Refusal}
 use Rattle.model.specs.declared.Refusal.TheVariants.{BadInstruction, BadLanding}
 use Rattle.model.specs.Words.{word, Quad, Entry, operator_of, limit, table, find, made, decode, fits, lands, lands_by, word_of}
-use Rattle.model.specs.Fields.{Read, refuse}
+use Rattle.model.specs.Fields.{refuse}
 use Rattle.model.specs.Reading.{landed}
 use Rattle.model.proofs.Words.{found, Writes, writes}
 use Rattle.opcodes.specs.Table.{Row, ranges, row_fits}

@@ -2,7 +2,6 @@
 use Rattle.std.specs.Prelude.{ℕ, Bool, false, ◌&&◌, nat_lt}
 use Rattle.opcodes.specs.declared.table.Kind.{Kind}
 use Rattle.opcodes.specs.declared.table.Kind.TheVariants.{Dash, Register, Shared, Scratch, Cell, Call, Argument, Operator, Signed, Target, Count, Method}
-use Rattle.opcodes.specs.declared.table.Operand.{Operand}
 use Rattle.opcodes.specs.declared.table.Entry.{Entry}
 use Rattle.model.specs.Words as words
 

@@ -1,4 +1,6 @@
 // Instructions: the table of opcodes, and instructions in their four bytes.
+#![tactic(auto)]
+
 mod table;
 mod words;
 

@@ -1,5 +1,5 @@
 -- The calls on a pair, by those on its parts.
-use Rattle.std.proofs.Common.{◌≡◌, ℕ, ◌+◌, ◌-◌, ◌*◌, ◌<◌, ◌≤◌, min, Bool, true, false, cond, ◌||◌, eqb, leb, ◌⊎◌, List, [], ◌∷◌, ◌++◌, length, take, drop, ℤ, Some, None, Ok, Err, Option, sym, refl, ap, ◌∙◌, subst, ap₂, inl, inr, append_assoc, arith, length-append, length-drop, take-append-drop, length-take}
+use Rattle.std.proofs.Common.{◌≡◌, ℕ, ◌+◌, ◌-◌, ◌*◌, ◌≤◌, Bool, true, false, ◌||◌, leb, ◌⊎◌, List, ◌++◌, length, take, drop, ℤ, Some, None, Ok, Err, Option, sym, refl, ap, ◌∙◌, subst, ap₂, inl, inr, append_assoc, arith, length-append, length-drop, take-append-drop, length-take}
 use borrow.Rule.Slice.PartMut.{put_mid, mid_of, post_of}
 use Rattle.std.proofs.lemmas.List.{append-nil, take_all, drop_all, take_at, drop_at, drop-drop, drop-take, take-take, take_rest}
 use Rattle.std.proofs.lemmas.Bool.{false≢true, true≢false, cases_eq}
@@ -10,10 +10,10 @@ use Rattle.model.specs.declared.Refusal.TheVariants.{NoSuchEvent}
 use Rattle.model.specs.declared.Verdict.{Verdict}
 use Rattle.model.specs.Policy.{Automaton, Blocks, Event, Showing}
 use Rattle.model.specs.Fields.{need, ◌>>=◌, ◌>>◌}
-use Rattle.model.specs.Calls.{told_width, told_length, watched_answer, starts_answer, starts_row, over_row, whole_row, verdict_of, row_behind, step_answer, row_after}
+use Rattle.model.specs.Calls.{told_width, told_length, watched_answer, starts_row, over_row, whole_row, verdict_of, row_behind, step_answer, row_after}
 use Rattle.model.specs.Calls.{block_bytes, block_area}
 use Rattle.model.specs.Kinds.{joined_cells, pair_automaton, pair_block}
-use Rattle.policy.specs.Calls.{may_start, may_step, may_write, is_taken, put_at}
+use Rattle.policy.specs.Calls.{may_start, may_step, may_write, is_taken}
 use Rattle.policy.proofs.Asked.{clash, starts_allowed, step_allowed, Writable, block_allowed}
 use Rattle.policy.proofs.Writes.{bytes_append, bytes_length}
 

@@ -1,13 +1,12 @@
 -- The calls on a watch, by those on its policy.
-use Rattle.std.proofs.Common.{◌≡◌, Bool, true, false, List, ℤ, Some, None, Ok, Err, Option, sym, refl, ap, ◌∙◌}
+use Rattle.std.proofs.Common.{◌≡◌, Bool, true, false, List, ℤ, Ok, Err, Option, sym, refl, ap}
 use mathlib.Core.Path.{subst⁻¹}
-use Rattle.model.specs.declared.Moment.{Moment}
 use Rattle.model.specs.declared.Refusal.{Refusal}
 use Rattle.model.specs.declared.Verdict.{Verdict}
 use Rattle.model.specs.Policy.{Automaton, Event}
-use Rattle.model.specs.Fields.{Read, need, ◌>>=◌, ◌>>◌}
+use Rattle.model.specs.Fields.{Read, ◌>>=◌, ◌>>◌}
 use Rattle.model.specs.Calls.{starts_answer, starts_row, step_answer, row_after, row_by, row_behind, roomy_row, over_row, stepped_row, verdict_of}
-use Rattle.model.specs.Watch.{Watch, watch_by, begin, begin_answer, begun_after, judged, goes_on, judge_answer, judged_after}
+use Rattle.model.specs.Watch.{Watch, watch_by, begin_answer, begun_after, judged, goes_on, judge_answer, judged_after}
 use Rattle.policy.proofs.Asked.{clash, same}
 
 -- the watch with the row s

@@ -3,7 +3,7 @@ use Rattle.std.proofs.Common.{◌≡◌, ℕ, ◌+◌, ◌-◌, ◌*◌, ◌<◌
 use lib.ListN.{length-map}
 use lib.Seq.{drop-append-add}
 use borrow.Rule.Slice.PartMut.{put_mid}
-use Rattle.std.proofs.lemmas.List.{take_at, take_more, append-nil, map-append}
+use Rattle.std.proofs.lemmas.List.{take_at, take_more, map-append}
 use Rattle.model.specs.declared.Instr.{Instr}
 use Rattle.model.specs.declared.Test.{Test}
 use Rattle.model.specs.Words.{Quad, flat, encode}

@@ -1,4 +1,6 @@
 // Policies: what they mean, what their calls answer, and the watch over one.
+#![tactic(auto)]
+
 ghost use Rattle.std.specs.Prelude.{◌≡◌};
 ghost use Rattle.model.specs.Policy.{Automaton, Blocks, Showing};
 ghost use Rattle.model.specs.Calls.{told_width, told_length, starts_answer, starts_row, watched_answer, step_answer, row_after, block_answer, block_area};

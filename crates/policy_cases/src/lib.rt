@@ -1,5 +1,7 @@
 // Tests of policies: their files, calls, steps, blocks, pairs and the watch. What is expected is
 // worked out by hand from docs/POLICIES.md and docs/REFUSALS.md.
+#![tactic(auto)]
+
 #[cfg(test)]
 mod asking;
 #[cfg(test)]

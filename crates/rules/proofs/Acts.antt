@@ -1,5 +1,5 @@
 -- Rules for an event, one after the other.
-use Rattle.std.proofs.Common.{◌≡◌, ℕ, Bool, true, false, cond, ◌&&◌, eqb, List, [], ◌∷◌, ◌++◌, take, drop, ℤ, pos, Some, None, Option, sym, refl, ap, ◌∙◌, take-append-drop}
+use Rattle.std.proofs.Common.{◌≡◌, ℕ, Bool, true, false, cond, ◌&&◌, eqb, List, ◌∷◌, ◌++◌, take, drop, ℤ, pos, Some, None, Option, refl, ap, ◌∙◌, take-append-drop}
 use Rattle.model.specs.declared.Moment.{Moment}
 use Rattle.model.specs.Moments.{same_moment}
 use Rattle.model.specs.Policy.{Automaton, eqZ}

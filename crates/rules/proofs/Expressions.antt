@@ -3,7 +3,7 @@ use Rattle.std.proofs.Common.{◌≡◌, ℕ, ◌+◌, ◌-◌, ◌<◌, ◌≤�
 use Rattle.std.proofs.lemmas.List.{drop_more, drop-drop, length-drop}
 use Rattle.std.proofs.lemmas.Bool.{and_right}
 use Rattle.model.specs.Words.{word}
-use Rattle.model.specs.Rules.{Token, constant, cell, argument, operator, Expr, token, tokens, both, balanced}
+use Rattle.model.specs.Rules.{Token, constant, cell, argument, operator, Expr, token, tokens, both}
 use Rattle.rules.specs.Tokens.{first_token, room, after, well_held}
 
 -- a number that was given since a test holds

@@ -1,11 +1,11 @@
 -- The reader's loops: fields one behind the other, by their first bad expression.
-use Rattle.std.proofs.Common.{◌≡◌, ℕ, zero, suc, ◌+◌, ◌-◌, ◌*◌, ◌<◌, ◌≤◌, Bool, true, false, List, [], ◌∷◌, length, get_or, take, drop, Some, None, Ok, Err, Option, sym, refl, ap, ◌∙◌, ap₂, subst₂, arith}
+use Rattle.std.proofs.Common.{◌≡◌, ℕ, zero, suc, ◌+◌, ◌-◌, ◌*◌, ◌<◌, ◌≤◌, true, false, List, [], ◌∷◌, length, get_or, take, drop, Some, None, Ok, Err, Option, sym, refl, ap, ◌∙◌, ap₂, subst₂, arith}
 use Rattle.std.proofs.lemmas.List.{length-drop, drop-take, drop_all, drop-drop}
 use Rattle.std.proofs.lemmas.Bool.{le-leb, lt-leb, eq-eqb, ne_eqb}
 use Rattle.model.specs.declared.Refusal.{Refusal}
 use Rattle.model.specs.declared.Refusal.TheVariants.{BadPolicyField, BadPolicySize}
-use Rattle.model.specs.Fields.{Read, Part, Field, a_tag, announced, next, expect, fields, ◌>>=◌, ◌>>◌}
-use Rattle.model.specs.Rules.{Raw, triples, update_field, rule_field}
+use Rattle.model.specs.Fields.{Read, Part, Field, announced, next, expect, fields, ◌>>=◌}
+use Rattle.model.specs.Rules.{triples, update_field, rule_field}
 use Rattle.model.specs.Policy.{arguments}
 use Rattle.model.specs.Moments.{moment_of}
 use Rattle.model.proofs.Parts.{parts_of_files}

@@ -1,12 +1,12 @@
 -- The values of an expression, on a stack.
-use Rattle.std.proofs.Common.{◌≡◌, ℕ, zero, suc, ◌+◌, ◌-◌, ◌<◌, ◌≤◌, Bool, true, false, ◌&&◌, ltb, leb, List, [], ◌∷◌, length, get_or, drop, set, ℤ, pos, Some, None, Option, sym, refl, ap, ◌∙◌, subst, ap₂, arith, length-set}
+use Rattle.std.proofs.Common.{◌≡◌, ℕ, suc, ◌+◌, ◌-◌, ◌<◌, ◌≤◌, true, ◌&&◌, List, [], ◌∷◌, length, get_or, drop, ℤ, pos, Some, None, Option, sym, refl, ap, ◌∙◌, subst, ap₂, arith, length-set}
 use Rattle.std.proofs.lemmas.List.{length-drop, drop-drop, drop_all}
-use Rattle.std.proofs.lemmas.Bool.{ltb-true, leb-true, eqb-true, and_parts, false≢true}
+use Rattle.std.proofs.lemmas.Bool.{ltb-true, leb-true, eqb-true, and_parts}
 use Rattle.model.specs.Policy.{operate}
-use Rattle.model.specs.Rules.{Token, constant, cell, argument, operator, Expr, emit, taken, values, value, balanced, token, tokens, both, expr_bytes, ValidToken, ValidExpr}
-use Rattle.model.proofs.RuleBlocks.{Held, held_set, held_more}
+use Rattle.model.specs.Rules.{Token, constant, cell, argument, operator, Expr, emit, taken, values, value, balanced, tokens, both, expr_bytes, ValidToken, ValidExpr}
+use Rattle.model.proofs.RuleBlocks.{Held, held_more}
 use Rattle.model.proofs.PolicyRoundTrip.{tokens_write}
-use Rattle.rules.specs.Tokens.{room, after, first_token, well_held}
+use Rattle.rules.specs.Tokens.{room, after, first_token}
 use Rattle.rules.specs.Values.{stacked}
 use Rattle.rules.specs.Writer.{IsCoded}
 use Rattle.model.specs.declared.Test.{Test}

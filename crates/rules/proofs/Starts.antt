@@ -1,7 +1,7 @@
 -- Start values in four bytes each.
-use Rattle.std.proofs.Common.{◌≡◌, ℕ, zero, suc, ◌+◌, ◌*◌, ◌/◌, ◌<◌, ◌≤◌, List, [], ◌∷◌, ◌++◌, map, length, get_or, take, drop, set, ℤ, pos, sym, refl, ap, ◌∙◌, ap₂, append_assoc, append-nil, add_assoc, arith}
+use Rattle.std.proofs.Common.{◌≡◌, ℕ, zero, suc, ◌+◌, ◌*◌, ◌/◌, ◌<◌, ◌≤◌, List, [], ◌∷◌, ◌++◌, map, length, get_or, take, drop, set, ℤ, pos, sym, refl, ap, ◌∙◌, append_assoc, add_assoc, arith}
 use lib.ListN.{length-map}
-use Rattle.std.proofs.lemmas.List.{get_or-drop, take_more, take_all, drop_more, map_more, set_at, length-take-le}
+use Rattle.std.proofs.lemmas.List.{get_or-drop, drop_more, map_more, set_at, length-take-le}
 use Rattle.model.specs.Words.{Quad, quads, quad_at, signed_of}
 
 pub length_quads : (bs : List ℕ) → length (quads bs) ≡ length bs / 4

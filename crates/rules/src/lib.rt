@@ -1,4 +1,6 @@
 // Rule policies over the bytes of their files: the reader, the step and the blocks.
+#![tactic(auto)]
+
 mod borrowed;
 mod index;
 mod pieces;

@@ -1,4 +1,6 @@
 // The command line for planners.
+#![tactic(auto)]
+
 mod diff;
 mod list;
 mod policies;

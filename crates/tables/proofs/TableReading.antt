@@ -2,15 +2,15 @@
 use Rattle.std.proofs.Common.{◌≡◌, ℕ, zero, suc, ◌+◌, ◌-◌, ◌*◌, ◌<◌, ◌≤◌, Bool, true, false, cond, not, ◌&&◌, ◌||◌, eqb, ltb, leb, List, [], ◌∷◌, length, get_or, take, drop, Ok, Err, sym, refl, ap, ◌∙◌, subst, ap₂, add-zero, mul-le-mul_left, zero-add, mul-suc, add-one, arith, length-drop}
 use native.Mathlib.Nat.{mul-div-le, div-eq_of_eq-mul_right}
 use Rattle.std.proofs.lemmas.List.{get_or-drop, drop-drop, drop_all, take_rest, length-take-le}
-use Rattle.std.proofs.lemmas.Bool.{false≢true, true≢false, le-leb, lt-leb, lt-ltb, le-ltb, ltb-true, ltb-false, eqb-true, eq-eqb, and_right}
+use Rattle.std.proofs.lemmas.Bool.{true≢false, le-leb, lt-leb, lt-ltb, le-ltb, ltb-true, ltb-false, eqb-true, eq-eqb, and_right}
 use Rattle.model.specs.declared.Refusal.{Refusal}
 use Rattle.model.specs.declared.Refusal.TheVariants.{BadPolicyField, BadPolicySize, SecondRow}
 use Rattle.model.specs.Words.{word}
-use Rattle.model.specs.Fields.{Read, Part, Field, refuse, need, within, every, next, a_tag, announced, contents_at, Standing, standing, nothing, broken, found, expect, fields, ◌>>=◌, ◌>>◌}
+use Rattle.model.specs.Fields.{Read, Part, Field, refuse, need, within, every, next, a_tag, announced, contents_at, standing, broken, found, expect, fields, ◌>>=◌, ◌>>◌}
 use Rattle.model.specs.declared.Moment.{Moment}
 use Rattle.model.specs.Moments.{moment_of}
 use Rattle.model.specs.Files.{all_below}
-use Rattle.model.specs.Tables.{Row, Table, row_in, row_for, row_field, read_rows, read_table, table_answer}
+use Rattle.model.specs.Tables.{Row, Table, row_in, row_for, row_field, read_rows, table_answer}
 use Rattle.model.proofs.Accepted.{bound, needed}
 use Rattle.model.proofs.PolicyAccepted.{all_four}
 use Rattle.model.proofs.Parts.{parts_of_files}

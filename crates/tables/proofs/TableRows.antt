@@ -1,16 +1,14 @@
 -- Rows of state tables, their steps and their blocks.
-use Rattle.std.proofs.Common.{◌≡◌, ℕ, zero, suc, ◌+◌, ◌-◌, ◌*◌, ◌<◌, ◌≤◌, Bool, true, false, cond, eqb, ◌⊎◌, List, [], ◌∷◌, ◌++◌, length, get_or, take, drop, set, ℤ, pos, negsuc, nat_abs, Some, None, Option, sym, refl, ap, ◌∙◌, subst, ap₂, inl, inr, append_assoc, add-zero, arith, length-append}
+use Rattle.std.proofs.Common.{◌≡◌, ℕ, ◌+◌, ◌<◌, ◌≤◌, Bool, true, false, cond, eqb, ◌⊎◌, List, [], ◌∷◌, ◌++◌, length, get_or, take, drop, set, ℤ, pos, negsuc, nat_abs, Some, None, sym, refl, ap, ◌∙◌, inl, inr, append_assoc, arith, length-append}
 use lib.Signed.{lt_z}
-use Rattle.std.specs.Option.{option_map}
 use Rattle.std.proofs.lemmas.List.{at_drop_more, at_drop_all, drop_more, get_or_past, get_or_default}
 use Rattle.std.proofs.lemmas.Bool.{ne_eqb, eq-eqb, false≢true, cases_lt}
 use Rattle.model.specs.declared.Moment.{Moment}
-use Rattle.model.specs.declared.Test.{Test}
 use Rattle.model.specs.Tables.{Row, row_in, row_of, has_row, row_for, from, moved_to, states_block}
 use Rattle.model.specs.Calls.{block_bytes}
 use Rattle.policy.specs.Calls.{put_at}
 use Rattle.tables.specs.Tables.{state_tests, no_row}
-use Rattle.policy.proofs.Writes.{put_behind, put_none, bytes_append, bytes_length}
+use Rattle.policy.proofs.Writes.{put_behind, put_none, bytes_append}
 
 -- ---- steps
 

@@ -1,4 +1,6 @@
 // State tables over the bytes of their files: the reader, the step and the blocks.
+#![tactic(auto)]
+
 mod blocks;
 mod reader;
 mod table;

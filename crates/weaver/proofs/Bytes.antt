@@ -1,17 +1,17 @@
 -- Bytes written one after the other.
-use Rattle.std.proofs.Common.{◌≡◌, ℕ, ◌+◌, ◌*◌, ◌/◌, ◌%◌, ◌<◌, ◌≤◌, List, [], ◌∷◌, ◌++◌, map, length, get_or, take, drop, ℤ, sym, refl, ap, ◌∙◌, ap₂, arith, length-append, length-take, w32, SFits, of_z}
+use Rattle.std.proofs.Common.{◌≡◌, ℕ, ◌+◌, ◌*◌, ◌/◌, ◌%◌, ◌<◌, ◌≤◌, List, [], ◌∷◌, ◌++◌, map, length, get_or, take, drop, ℤ, sym, refl, ap, ◌∙◌, arith, length-append, length-take, w32, SFits, of_z}
 use lib.ListN.{length-map}
-use Rattle.std.proofs.lemmas.List.{map-append, take_more, take_at, take_all}
+use Rattle.std.proofs.lemmas.List.{map-append, take_more, take_at}
 use Rattle.std.proofs.lemmas.Bool.{le-leb}
 use Rattle.std.proofs.lemmas.Int.{ints}
 use Rattle.model.specs.Policy.{Automaton}
 use Rattle.model.specs.Fields.{field, ◌>>=◌}
-use Rattle.model.specs.Words.{Quad, flat, high, low, quad_of}
+use Rattle.model.specs.Words.{flat, high, low, quad_of}
 use Rattle.model.specs.Calls.{starts_row}
 use Rattle.model.proofs.Places.{flat_append}
 use Rattle.model.proofs.Words.{length_flat}
 use Rattle.policy.specs.Calls.{put_at}
-use Rattle.policy.proofs.Writes.{put_put, put_none}
+use Rattle.policy.proofs.Writes.{put_put}
 
 -- an area with bytes written from place a on, the next place being b
 pub record Wrote (xs : List ℕ) (a : ℕ) (ys : List ℕ) (b : ℕ) (u : List ℕ) : Type 0 where

@@ -1,8 +1,8 @@
 -- The passes over an applet that was read.
-use Rattle.std.proofs.Common.{◌≡◌, ℕ, zero, suc, ◌+◌, ◌*◌, ◌/◌, ◌<◌, ◌≤◌, Bool, true, false, eqb, leb, List, [], ◌∷◌, ◌++◌, map, length, get_or, take, drop, ℤ, Some, None, Ok, Err, Option, sym, refl, ap, ◌∙◌, subst, ap₂, arith, length-append, length-drop}
+use Rattle.std.proofs.Common.{◌≡◌, ℕ, zero, suc, ◌+◌, ◌*◌, ◌<◌, ◌≤◌, true, false, eqb, List, [], ◌∷◌, length, get_or, drop, ℤ, Some, None, Ok, Err, sym, refl, ap, ◌∙◌, subst, arith, length-append, length-drop}
 use lib.ListN.{length-map}
 use Rattle.std.specs.List.{AllByRecursion as All}
-use Rattle.std.proofs.lemmas.List.{at_drop_more, at_drop_all, drop_more, get_or-map}
+use Rattle.std.proofs.lemmas.List.{at_drop_all, drop_more, get_or-map}
 use Rattle.std.proofs.lemmas.Bool.{true≢false, false≢true, ne_eqb}
 use Rattle.model.specs.declared.Instr.{Instr}
 use Rattle.model.specs.declared.Own.{Own}
@@ -11,14 +11,12 @@ use Rattle.model.specs.declared.Refusal.TheVariants.{NotPlain}
 use Rattle.model.specs.Machine as machine
 use Rattle.model.specs.Weave.{Plain}
 use Rattle.model.specs.Fields.{Within, Read, need, ◌>>=◌, ◌>>◌, contents_at}
-use Rattle.model.specs.Words.{quads, decode}
 use Rattle.model.specs.Reading.{Valid, write_code, write_codes, write_applet, method_place, instr_place, cells_place}
 use Rattle.model.specs.Files.{plain_code, plain_codes, plain_of}
 use Rattle.model.proofs.Places.{method_at, length_field}
-use Rattle.applet.specs.Applets.{or_end, code_in, nth, laid_out}
+use Rattle.applet.specs.Applets.{code_in, nth, laid_out}
 use Rattle.applet.specs.Stages.{Found}
-use Rattle.applet.proofs.Loops.{nth_in, nth_past, length_quads}
-use Rattle.weaver.specs.Pieces.{own_of, instrs}
+use Rattle.weaver.specs.Pieces.{instrs}
 use Rattle.weaver.specs.Weaves.{is_own, forget, MethodAt}
 use Rattle.weaver.proofs.Starts.{length_instrs}
 use Rattle.weaver.proofs.SiteBytes.{write_length}

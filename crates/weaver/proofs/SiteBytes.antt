@@ -1,9 +1,9 @@
 -- Sites in bytes.
-use Rattle.std.proofs.Common.{◌≡◌, ℕ, suc, ◌+◌, ◌-◌, ◌*◌, ◌<◌, ◌≤◌, Bool, true, false, cond, ◌||◌, eqb, leb, ◌⊎◌, List, [], ◌∷◌, ◌++◌, map, length, get_or, take, drop, set, Some, None, Ok, Err, Option, sym, refl, ap, ◌∙◌, subst, ap₂, inl, inr, append_assoc, add-zero, add_assoc, arith, length-append, length-drop, get_or-set_other, get_or-set_same, drop-drop}
+use Rattle.std.proofs.Common.{◌≡◌, ℕ, suc, ◌+◌, ◌-◌, ◌*◌, ◌<◌, ◌≤◌, Bool, true, false, cond, ◌||◌, eqb, leb, ◌⊎◌, List, [], ◌∷◌, ◌++◌, map, length, get_or, take, drop, set, Some, None, Ok, Err, Option, sym, refl, ap, ◌∙◌, ap₂, inl, inr, append_assoc, arith, length-append, length-drop, get_or-set_other, get_or-set_same, drop-drop}
 use lib.ListN.{length-map}
 use borrow.Rule.Slice.PartMut.{put_mid, mid_of}
-use Rattle.std.proofs.lemmas.List.{append-nil, take_rest, map-append}
-use Rattle.std.proofs.lemmas.Bool.{le-leb, cases_eq, true≢false}
+use Rattle.std.proofs.lemmas.List.{take_rest, map-append}
+use Rattle.std.proofs.lemmas.Bool.{le-leb, cases_eq}
 use Rattle.model.specs.declared.Instr.{Instr}
 use Rattle.model.specs.declared.Own.{Own}
 use Rattle.model.specs.declared.Test.{Test}
@@ -20,7 +20,7 @@ use Rattle.model.proofs.Words.{length_flat}
 use Rattle.policy.specs.Calls.{put_at}
 use Rattle.policy.proofs.Asked.{clash}
 use Rattle.policy.proofs.Pairs.{put_rest}
-use Rattle.policy.proofs.Writes.{put_put, put_none, bytes_length}
+use Rattle.policy.proofs.Writes.{put_put, put_none}
 use Rattle.weaver.specs.Pieces.{host_size}
 
 -- ---- watched calls

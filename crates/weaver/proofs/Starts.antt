@@ -1,14 +1,14 @@
 -- Woven indices, over plain lists.
-use Rattle.std.proofs.Common.{◌≡◌, ℕ, zero, suc, ◌+◌, ◌*◌, ◌/◌, ◌<◌, ◌≤◌, min, true, ◌≢◌, ◌⊎◌, List, [], ◌∷◌, map, length, get_or, set, Some, None, Option, sym, refl, ap, ◌∙◌, subst, inl, inr, suc-add, add-one, arith, get_or-set_other, get_or-set_same}
+use Rattle.std.proofs.Common.{◌≡◌, ℕ, zero, suc, ◌+◌, ◌*◌, ◌/◌, ◌<◌, ◌≤◌, true, ◌⊎◌, List, [], ◌∷◌, length, get_or, set, Some, None, Option, sym, refl, ap, ◌∙◌, subst, inl, inr, add-one, arith, get_or-set_other, get_or-set_same}
 use lib.ListN.{length-map}
 use Rattle.std.proofs.lemmas.List.{get_or-map}
 use Rattle.std.proofs.lemmas.Bool.{cases_eq}
 use Rattle.model.specs.declared.Instr.{Instr}
 use Rattle.model.specs.declared.Own.{Own}
-use Rattle.model.specs.Words.{Quad, Entry, quads, quad_at, decode, table, Ranged, limit, own, call}
+use Rattle.model.specs.Words.{Quad, Entry, quad_at, decode, table, Ranged, limit, own, call}
 use Rattle.model.specs.Words.Operand.{target}
 use Rattle.model.proofs.Words.{decoded}
-use Rattle.applet.specs.Applets.{or_end, nth}
+use Rattle.applet.specs.Applets.{or_end}
 use Rattle.applet.proofs.Loops.{nth_quads, length_quads, nth_in}
 use Rattle.weaver.specs.Pieces.{own_of, instrs, owns, Called, size_by, start_by}
 

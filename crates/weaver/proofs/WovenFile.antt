@@ -1,8 +1,8 @@
 -- The woven file of an applet that was read.
-use Rattle.std.proofs.Common.{◌≡◌, ℕ, zero, suc, ◌+◌, ◌*◌, ◌/◌, ◌<◌, ◌≤◌, Bool, true, false, leb, List, [], ◌∷◌, ◌++◌, map, length, get_or, take, drop, Ok, Err, sym, refl, ap, ◌∙◌, subst, ap₂, append_assoc, arith, length-append, take-append-drop}
+use Rattle.std.proofs.Common.{◌≡◌, ℕ, ◌+◌, ◌*◌, ◌<◌, ◌≤◌, leb, List, [], ◌∷◌, ◌++◌, map, length, get_or, take, drop, Ok, Err, sym, refl, ap, ◌∙◌, subst, ap₂, append_assoc, arith, length-append, take-append-drop}
 use lib.ListN.{length-map}
 use Rattle.std.specs.List.{AllByRecursion as All}
-use Rattle.std.proofs.lemmas.List.{at_drop_more, at_drop_all, drop_more, take_more, take_all, get_or-map, append-nil}
+use Rattle.std.proofs.lemmas.List.{at_drop_more, at_drop_all, take_more, take_all, get_or-map, append-nil}
 use Rattle.std.proofs.lemmas.Bool.{le-leb, lt-leb, leb-true}
 use Rattle.model.specs.declared.Instr.{Instr}
 use Rattle.model.specs.declared.Own.{Own}
@@ -14,16 +14,16 @@ use Rattle.model.specs.Machine as machine
 use Rattle.model.specs.Policy.{Automaton, Blocks}
 use Rattle.model.specs.Fields.{Read, need, ◌>>=◌, ◌>>◌, field}
 use Rattle.model.specs.Words.{flat, quad_of}
-use Rattle.model.specs.Weave.{Plain, woven, woven_applet}
+use Rattle.model.specs.Weave.{Plain, woven}
 use Rattle.model.specs.Reading.{write_code, write_codes, write_applet, method_place, code_place, instr_place}
 use Rattle.model.specs.Files.{plain_code, plain_codes, plain_of, sized}
-use Rattle.model.specs.Areas.{over_area, area_after}
+use Rattle.model.specs.Areas.{over_area}
 use Rattle.model.proofs.Accepted.{bound, needed, err_ok}
 use Rattle.model.proofs.Places.{length_field, write_codes_append}
 use Rattle.policy.specs.Calls.{put_at}
 use Rattle.policy.proofs.Asked.{same}
 use Rattle.policy.proofs.Writes.{put_front}
-use Rattle.weaver.specs.Pieces.{own_of, instrs, owns}
+use Rattle.weaver.specs.Pieces.{own_of, owns}
 use Rattle.weaver.specs.Weaves.{forget, plain_part, woven_of, woven_file, woven_length, woven_answer, woven_area, MethodAt}
 use Rattle.weaver.proofs.SiteBytes.{write_length}
 use Rattle.weaver.proofs.Bytes.{Wrote, wrote_more, cells_length}

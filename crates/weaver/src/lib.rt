@@ -1,4 +1,6 @@
 // Weaving: a plain applet becomes one with a policy's tests around each host call that it watches.
+#![tactic(auto)]
+
 ghost use Rattle.std.specs.Prelude.{◌≡◌, take, IfOk};
 ghost use Rattle.model.specs.Areas.{weave_answer, weave_area};
 ghost use Rattle.model.specs.Stripping.{Stripped};

@@ -1,6 +1,5 @@
-use Rattle.std.proofs.Common.{◌≡◌, length, Ok, Err, sym, refl, ap, ◌∙◌, arith}
+use Rattle.std.proofs.Common.{◌≡◌, length, Ok, Err, sym, ap, ◌∙◌, arith}
 use Rattle.std.proofs.lemmas.Result.{err_from_is_err_and, IfOk-from_err}
-use Rattle.model.specs.Reading.{read_applet}
 use Rattle.model.specs.Files.{policy_limits}
 use Rattle.model.proofs.Weaving.{limited}
 use Rattle.applet.specs.Applets.{meant, read_seen}

@@ -1,4 +1,4 @@
-use Rattle.std.proofs.Common.{◌≡◌, ℕ, ◌<◌, length, get_or}
+use Rattle.std.proofs.Common.{◌≡◌, ℕ, length, get_or}
 use Rattle.applet.specs.Glances.{Seen, blind}
 use Rattle.applet.proofs.glance.glances.Given as goal
 

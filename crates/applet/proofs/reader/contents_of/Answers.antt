@@ -1,4 +1,4 @@
-use Rattle.std.proofs.Common.{◌≡◌, ℕ, ◌+◌, ◌*◌, List, length, take, drop, ap, ◌∙◌, ap₂, arith}
+use Rattle.std.proofs.Common.{◌≡◌, ℕ, ◌+◌, ◌*◌, List, take, drop, ◌∙◌, ap₂, arith}
 use Rattle.model.specs.Fields.{contents_at, announced}
 use Rattle.applet.proofs.Loops.{drop_cut, length_cut}
 use Rattle.applet.proofs.reader.contents_of.Goals as goal

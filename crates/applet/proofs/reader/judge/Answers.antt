@@ -1,4 +1,4 @@
-use Rattle.std.proofs.Common.{◌*◌, sym, ap, ◌∙◌}
+use Rattle.std.proofs.Common.{◌*◌, ◌∙◌}
 use Rattle.model.specs.Words.{quad_at}
 use Rattle.opcodes.specs.Table.{row}
 use Rattle.opcodes.proofs.Decoding.{judged_row, judged_none}

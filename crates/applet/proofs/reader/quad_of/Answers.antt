@@ -1,4 +1,4 @@
-use Rattle.std.proofs.Common.{◌<◌, arith}
+use Rattle.std.proofs.Common.{arith}
 use Rattle.applet.proofs.Quads.{quad_none, past_file, past_announced, quad_some}
 use Rattle.applet.proofs.reader.quad_of.Goals as goal
 

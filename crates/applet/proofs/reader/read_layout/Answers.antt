@@ -1,9 +1,9 @@
-use Rattle.std.proofs.Common.{◌≡◌, ℕ, ◌+◌, ◌*◌, true, cond, leb, List, length, take, Ok, Err, sym, refl, ap, ◌∙◌, ap₂, arith}
+use Rattle.std.proofs.Common.{◌≡◌, ℕ, ◌+◌, ◌*◌, true, cond, leb, List, length, take, sym, ap, ◌∙◌, ap₂, arith}
 use Rattle.std.proofs.lemmas.Result.{err_from_is_err_and}
 use Rattle.std.proofs.lemmas.Bool.{le-leb}
 use Rattle.model.specs.declared.Refusal.TheVariants.{BadField}
-use Rattle.model.specs.Fields.{Read, refuse}
-use Rattle.applet.specs.Stages.{head_of, entries_of, cells_of, due_at, places_from, places_in, codes_judged, staged, from_head, from_entries, from_cells, from_places, from_codes}
+use Rattle.model.specs.Fields.{refuse}
+use Rattle.applet.specs.Stages.{head_of, entries_of, cells_of, due_at, places_from, places_in, staged, from_head, from_entries, from_cells, from_places, from_codes}
 use Rattle.applet.proofs.reader.read_layout.Goals as goal
 use Rattle.applet.proofs.reader.read_layout.Goals.{After-read_head, After-read_entries, After-read_cells, After-read_places, After-judge_codes}
 

@@ -1,9 +1,9 @@
-use Rattle.std.proofs.Common.{◌≡◌, ℕ, ◌-◌, ◌<◌, true, false, leb, List, [], length, get_or, take, Ok, Err, sym, refl, ap, ◌∙◌, arith, length-set}
+use Rattle.std.proofs.Common.{◌≡◌, ℕ, ◌<◌, true, false, leb, List, [], length, Ok, Err, sym, refl, ap, ◌∙◌, arith, length-set}
 use native.Mathlib.Nat.{sub-zero}
 use Rattle.std.proofs.lemmas.Result.{err_from_is_err_and, IfOk-from_err}
 use Rattle.model.specs.declared.Refusal.TheVariants.{BadField}
 use Rattle.model.specs.Fields.{Read, standing, behind}
-use Rattle.applet.specs.Stages.{gathered, places_from, method_of, due_at}
+use Rattle.applet.specs.Stages.{gathered, method_of, due_at}
 use Rattle.applet.proofs.Loops.{place_stops, place_more, place_ends, place_over, method_inside, inside_more}
 use Rattle.applet.proofs.reader.read_places.Goals as goal
 use Rattle.applet.proofs.reader.read_places.Goals.{After-read_method}

@@ -1,4 +1,4 @@
-use Rattle.std.proofs.Common.{◌≡◌, ◌+◌, sym, ap, ◌∙◌, arith}
+use Rattle.std.proofs.Common.{◌+◌, ap, ◌∙◌, arith}
 use Rattle.model.specs.Machine.{Applet, step}
 use Rattle.machine.specs.Machines.{program, holds_now}
 use Rattle.bench_calls.specs.Counts.{worked, served}
@@ -16,8 +16,8 @@ loop-i-preserved c =
     let says = c.works.ensures.value ∙ ap (λ (q : Applet). worked (step q k t)) same in
     let goes = c.works.ensures.after ∙ ap (λ (q : Applet). served q k t (step q k t)) same in (
       omega arith,
-      turn_more p m k c.args.last t c.loop-i.i c.next-of-thread.result h.1 c.next-of-thread.ensures,
+      turn_more p m k c.args.last t c.loop-i.i c.next_of-thread.result h.1 c.next_of-thread.ensures,
       c.works.ensures.program ∙ same,
       turned_more p m k c.args.last t c.loop-i.i (holds_now c.works.new.m) h.1 h.3 goes,
-      ap (λ n. c.loop-i.n + n) c.one-if.ensures.value ∙ works_more p m k c.args.last t c.loop-i.i c.loop-i.n c.works.result h.1 h.3 h.4 says,
+      ap (λ n. c.loop-i.n + n) c.one_if.ensures.value ∙ works_more p m k c.args.last t c.loop-i.i c.loop-i.n c.works.result h.1 h.3 h.4 says,
     )

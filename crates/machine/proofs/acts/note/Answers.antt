@@ -1,4 +1,3 @@
-use Rattle.std.proofs.Common.{◌≡◌, refl}
 use Rattle.machine.proofs.Traces.{front, behind}
 use Rattle.machine.proofs.acts.note.Goals as goal
 

@@ -1,4 +1,4 @@
-use Rattle.std.proofs.Common.{◌≡◌, ℕ, length, sym, ap, ◌∙◌}
+use Rattle.std.proofs.Common.{◌≡◌, ℕ, length, ap, ◌∙◌}
 use lib.ListN.{length-map}
 use Rattle.model.specs.Words.{quad_at, decode}
 use Rattle.applet.specs.Applets.{places_of, code_in, or_end}

@@ -1,7 +1,6 @@
 use Rattle.std.proofs.Common.{◌≡◌, ℕ, ◌/◌, List, [], ◌∷◌, ap, ◌∙◌}
-use Rattle.model.specs.Words.{Word, word_of, high, low, quad_at, flat, encode, decode}
+use Rattle.model.specs.Words.{Word, high, low, quad_at, flat, encode, decode}
 use Rattle.model.proofs.Words.{encoded}
-use Rattle.opcodes.specs.Instructions.{numbers}
 use Rattle.opcodes.proofs.words.encode.Goals as goal
 
 pub returns : goal.returns

@@ -1,4 +1,4 @@
-use Rattle.std.proofs.Common.{◌≡◌, true, false, leb, length, sym, ◌∙◌, arith}
+use Rattle.std.proofs.Common.{leb, length, sym, arith}
 use Rattle.model.specs.Moments.{each_moment}
 use Rattle.policy.proofs.WithinLimits.{limits_wide, limits_long, limits_kept, all_below_false, all_below_more}
 use Rattle.policy.proofs.bounds.limits.Goals as goal

@@ -1,4 +1,4 @@
-use Rattle.std.proofs.Common.{◌≡◌, get_or, sym, ◌∙◌, arith}
+use Rattle.std.proofs.Common.{arith}
 use Rattle.std.proofs.lemmas.List.{get_or_past}
 use Rattle.model.proofs.PolicyKinds.{kind_neither, read_neither}
 use Rattle.policy.proofs.kind.policy_kind.Goals as goal

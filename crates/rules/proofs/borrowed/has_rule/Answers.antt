@@ -1,4 +1,4 @@
-use Rattle.std.proofs.Common.{◌≡◌, ◌<◌, length, ◌∙◌}
+use Rattle.std.proofs.Common.{◌<◌, length, ◌∙◌}
 use Rattle.std.proofs.ByRecursion.{All-from_get_or}
 use Rattle.model.specs.Fields.{Bytes}
 use Rattle.model.specs.Rules.{rules_in}

@@ -1,4 +1,4 @@
-use Rattle.std.proofs.Common.{◌≡◌, ℕ, ◌+◌, ◌-◌, ◌*◌, map, length, take, drop, sym, ap, ◌∙◌, arith, length-drop, length-take}
+use Rattle.std.proofs.Common.{◌≡◌, ◌+◌, ◌-◌, ◌*◌, map, length, take, drop, ap, ◌∙◌, arith, length-drop, length-take}
 use Rattle.model.specs.Words.{quads, signed_of}
 use Rattle.model.specs.Rules.{rules_in}
 use Rattle.model.proofs.RuleFiles.{rules_laid}

@@ -1,4 +1,4 @@
-use Rattle.std.proofs.Common.{◌≡◌, sym, ap, ◌∙◌, arith}
+use Rattle.std.proofs.Common.{sym, arith}
 use Rattle.std.proofs.lemmas.Result.{err_from_is_err_and}
 use Rattle.rules.proofs.Reading.{Here, here, too_long, unheaded, misheaded, unstarted, misstarted, started}
 use Rattle.rules.proofs.reader.open.Goals as goal

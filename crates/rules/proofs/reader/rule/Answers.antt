@@ -1,11 +1,11 @@
-use Rattle.std.proofs.Common.{◌≡◌, ◌+◌, true, get_or, drop, None, Ok, sym, ap, ◌∙◌, ap₂}
+use Rattle.std.proofs.Common.{◌≡◌, ◌+◌, get_or, drop, None, Ok, sym, ap, ◌∙◌, ap₂}
 use Rattle.std.proofs.lemmas.List.{take_rest}
 use Rattle.std.proofs.lemmas.Result.{err_from_is_err_and}
 use Rattle.model.specs.Fields.{fields}
 use Rattle.model.specs.Moments.{moment_of}
 use Rattle.model.specs.Policy.{arguments}
 use Rattle.model.specs.Rules.{update_field, rule_field}
-use Rattle.rules.specs.Reader.{headed, earlier, bad_expr, bad_update, bad_rule, one_bad, faulty}
+use Rattle.rules.specs.Reader.{headed, bad_expr, bad_update, bad_rule, one_bad, faulty}
 use Rattle.rules.proofs.Reading.{here, behind_guard, rule_unheaded, rule_unguarded, rule_missized, rule_rest}
 use Rattle.rules.proofs.reader.rule.Goals as goal
 use Rattle.rules.proofs.reader.rule.Goals.{After-updates}

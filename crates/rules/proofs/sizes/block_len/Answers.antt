@@ -1,4 +1,4 @@
-use Rattle.std.proofs.Common.{◌≡◌, ◌&&◌, eqb, List, sym, ap, ◌∙◌, ap₂, arith}
+use Rattle.std.proofs.Common.{◌&&◌, eqb, sym, ap, ◌∙◌, ap₂, arith}
 use Rattle.model.specs.Moments.{same_moment}
 use Rattle.model.specs.Policy.{arguments}
 use Rattle.model.specs.Rules.{rules_of}

@@ -1,5 +1,5 @@
-use Rattle.std.proofs.Common.{◌≡◌, List, length, sym, refl, ap, ◌∙◌, arith}
-use Rattle.model.specs.Rules.{Update, emit_updates}
+use Rattle.std.proofs.Common.{length, ap, ◌∙◌, arith}
+use Rattle.model.specs.Rules.{emit_updates}
 use Rattle.rules.specs.Views.{update_view}
 use Rattle.rules.proofs.Shown.{next_update, no_updates}
 use Rattle.rules.proofs.Lengths.{expr_size, length_updates}

@@ -1,4 +1,4 @@
-use Rattle.std.proofs.Common.{◌≡◌, ◌++◌, map, length, take, drop, set, sym, ap, ◌∙◌, ap₂, arith, length-set, take_all, w32, SFits, rules}
+use Rattle.std.proofs.Common.{◌≡◌, ◌++◌, map, length, drop, set, ◌∙◌, ap₂, arith, take_all, w32, SFits, rules}
 use Rattle.std.proofs.lemmas.Int.{to_z-of_z}
 use Rattle.model.specs.Words.{quads, signed_of}
 use Rattle.rules.proofs.Starts.{length_quads, start_more}

@@ -1,6 +1,6 @@
-use Rattle.std.proofs.Common.{◌≡◌, set, sym, refl, ap, ◌∙◌, ap₂, arith, w32, SFits, rules}
+use Rattle.std.proofs.Common.{set, sym, refl, ap, ◌∙◌, ap₂, arith, w32, SFits, rules}
 use Rattle.std.proofs.lemmas.Int.{to_z-of_z}
-use Rattle.model.specs.Rules.{updated, value}
+use Rattle.model.specs.Rules.{updated}
 use Rattle.rules.specs.Views.{update_view}
 use Rattle.rules.proofs.Shown.{next_update, no_updates}
 use Rattle.rules.proofs.steps.update_cells.Goals as goal

@@ -1,4 +1,4 @@
-use Rattle.std.proofs.Common.{◌≡◌, ℕ, ◌+◌, ◌≤◌, List, length, ℤ, sym, refl, ap, ◌∙◌, ap₂, subst₂, arith, w32, SFits, rules}
+use Rattle.std.proofs.Common.{◌+◌, length, sym, refl, ap, ◌∙◌, subst₂, arith, w32, SFits, rules}
 use Rattle.std.proofs.lemmas.Int.{to_z-of_z}
 use Rattle.model.specs.Rules.{value}
 use Rattle.rules.specs.Tokens.{meant, room, after}

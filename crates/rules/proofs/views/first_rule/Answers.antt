@@ -1,8 +1,7 @@
-use Rattle.std.proofs.Common.{◌≡◌, ℕ, ◌<◌, List, ◌∷◌, ◌++◌, length, get_or, drop, sym, refl, ap, ◌∙◌, ap₂, arith}
+use Rattle.std.proofs.Common.{◌≡◌, length, get_or, drop, ap, ◌∙◌, arith}
 use Rattle.std.specs.List.{flat_map}
 use Rattle.std.proofs.lemmas.List.{take_rest, length-take, length-drop}
-use Rattle.model.specs.Moments.{moment_number, moment_of}
-use Rattle.model.specs.Fields.{field}
+use Rattle.model.specs.Moments.{moment_of}
 use Rattle.model.specs.Rules.{expr_bytes, update_bytes}
 use Rattle.model.proofs.Moments.{moment_back}
 use Rattle.model.proofs.PolicyRoundTrip.{short_rule, length_expr, rule_contents}

@@ -1,4 +1,4 @@
-use Rattle.std.proofs.Common.{◌≡◌, sym, ap, subst}
+use Rattle.std.proofs.Common.{sym, ap, subst}
 use Rattle.model.specs.declared.Test.TheVariants.{Mcell}
 use Rattle.rules.specs.Tokens.{meant}
 use Rattle.rules.specs.Writer.{IsCoded}

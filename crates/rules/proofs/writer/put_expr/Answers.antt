@@ -1,4 +1,4 @@
-use Rattle.std.proofs.Common.{◌≡◌, ◌+◌, List, [], ◌∷◌, sym, ap, ◌∙◌, subst, arith}
+use Rattle.std.proofs.Common.{◌+◌, [], ◌∷◌, sym, ap, ◌∙◌, subst, arith}
 use Rattle.model.specs.Rules.{emit}
 use Rattle.rules.specs.Tokens.{meant, room, after}
 use Rattle.rules.proofs.Expressions.{given_by}

@@ -1,4 +1,4 @@
-use Rattle.std.proofs.Common.{◌≡◌, ℕ, ◌+◌, List, [], ◌∷◌, ◌++◌, length, sym, ◌∙◌, subst, ap₂, arith}
+use Rattle.std.proofs.Common.{◌≡◌, ◌+◌, [], ◌∷◌, ◌++◌, length, sym, ◌∙◌, subst, ap₂, arith}
 use Rattle.model.specs.declared.Test.TheVariants.{Skz, Skip}
 use Rattle.model.specs.Rules.{emit, emit_updates}
 use Rattle.rules.specs.Writer.{rule_code}

@@ -1,4 +1,4 @@
-use Rattle.std.proofs.Common.{◌≡◌, ◌+◌, ◌*◌, ◌≤◌, List, length}
+use Rattle.std.proofs.Common.{◌+◌, ◌*◌, ◌≤◌, List, length}
 use Rattle.model.specs.Rules.{Update, emit_updates}
 use Rattle.rules.specs.Views.{WrittenUpdates}
 use Rattle.rules.specs.Writer.{Cells}

@@ -1,15 +1,15 @@
-use Rattle.std.proofs.Common.{◌≡◌, ℕ, ◌+◌, ◌-◌, ◌&&◌, eqb, List, [], ◌∷◌, ◌++◌, length, sym, refl, ap, ◌∙◌, subst, ap₂, arith}
+use Rattle.std.proofs.Common.{◌≡◌, ◌+◌, ◌&&◌, eqb, [], ◌∷◌, ◌++◌, length, sym, ap, ◌∙◌, subst, ap₂, arith}
 use Rattle.std.proofs.lemmas.Bool.{and_parts}
 use Rattle.model.specs.declared.Test.TheVariants.{Viol}
 use Rattle.model.specs.Moments.{same_moment}
 use Rattle.model.specs.Policy.{arguments}
 use Rattle.model.specs.Calls.{block_bytes}
-use Rattle.model.specs.Rules.{Rule, rules_of, block_of, emit_rules, ValidExpr}
+use Rattle.model.specs.Rules.{rules_of, block_of, emit_rules, ValidExpr}
 use Rattle.model.proofs.Moments.{same_moment_true}
 use Rattle.policy.specs.Calls.{put_at}
 use Rattle.policy.proofs.Writes.{put_none}
 use Rattle.rules.specs.Views.{rule_view, WrittenUpdates}
-use Rattle.rules.specs.Writer.{Puts, Fitting, rule_code}
+use Rattle.rules.specs.Writer.{Fitting, rule_code}
 use Rattle.rules.proofs.Shown.{next_rule, no_rules}
 use Rattle.rules.proofs.Acts.{for_it, for_other}
 use Rattle.rules.proofs.Lengths.{rules_size, expr_size, updates_placed, length_rules, block_none, block_some, block_as_long, rule_first}

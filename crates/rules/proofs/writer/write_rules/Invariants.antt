@@ -1,5 +1,5 @@
 use Rattle.std.proofs.Common.{◌≡◌, ◌+◌, ◌≤◌, List, length}
-use Rattle.model.specs.Rules.{Rule, rules_of, block_of, emit_rules}
+use Rattle.model.specs.Rules.{Rule, rules_of, emit_rules}
 use Rattle.rules.specs.Views.{Written}
 use Rattle.rules.specs.Writer.{Cells, Fitting}
 use Rattle.rules.proofs.Lengths.{rules_size}

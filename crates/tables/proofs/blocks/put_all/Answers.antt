@@ -1,4 +1,4 @@
-use Rattle.std.proofs.Common.{◌≡◌, ◌+◌, ◌*◌, length, get_or, take, sym, ap, ◌∙◌, arith, take_all}
+use Rattle.std.proofs.Common.{sym, ap, ◌∙◌, arith, take_all}
 use Rattle.model.specs.Calls.{block_bytes}
 use Rattle.policy.specs.Calls.{put_at}
 use Rattle.policy.proofs.Writes.{put_none, put_more}

@@ -1,6 +1,6 @@
-use Rattle.std.proofs.Common.{◌≡◌, ◌+◌, ◌-◌, ◌*◌, ◌/◌, ◌<◌, ◌≤◌, length, Err, sym, ap, ◌∙◌, subst, arith}
+use Rattle.std.proofs.Common.{◌+◌, ◌-◌, ◌*◌, ◌/◌, ◌<◌, length, Err, sym, ap, ◌∙◌, subst, arith}
 use Rattle.model.specs.declared.Refusal.TheVariants.{SecondRow}
-use Rattle.tables.specs.Reading.{apart_from, row_count}
+use Rattle.tables.specs.Reading.{row_count}
 use Rattle.tables.proofs.TableReading.{row_room, apart_more, apart_second}
 use Rattle.tables.proofs.reader.check_apart.Goals as goal
 

@@ -1,4 +1,4 @@
-use Rattle.std.proofs.Common.{◌≡◌, ◌-◌, ◌≤◌, length}
+use Rattle.std.proofs.Common.{◌≡◌, ◌-◌, length}
 use Rattle.tables.specs.Reading.{rows_answer}
 use Rattle.tables.proofs.reader.check_rows.Given as goal
 

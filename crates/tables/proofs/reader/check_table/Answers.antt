@@ -1,4 +1,4 @@
-use Rattle.std.proofs.Common.{◌≡◌, Err, ap, ◌∙◌}
+use Rattle.std.proofs.Common.{Err, ap, ◌∙◌}
 use Rattle.std.proofs.lemmas.Result.{err_from_is_err_and}
 use Rattle.tables.proofs.TableReading.{head_is, answer_long, answer_head, answer_rows, answer_apart}
 use Rattle.tables.proofs.reader.check_table.Goals as goal

@@ -1,4 +1,4 @@
-use Rattle.std.proofs.Common.{◌≡◌, ◌∙◌, ap₂}
+use Rattle.std.proofs.Common.{◌∙◌, ap₂}
 use Rattle.model.specs.Fields.{standing}
 use Rattle.tlv.specs.Parts.{due}
 use Rattle.tables.proofs.TableReading.{due_read, inside}

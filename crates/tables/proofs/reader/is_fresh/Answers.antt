@@ -1,4 +1,4 @@
-use Rattle.std.proofs.Common.{◌≡◌, ℕ, Bool, not, length, sym, ap, ◌∙◌}
+use Rattle.std.proofs.Common.{ℕ, Bool, not, length, sym, ap, ◌∙◌}
 use Rattle.model.specs.Tables.{row_for}
 use Rattle.tables.specs.Reading.{row_in_file}
 use Rattle.tables.proofs.TableReading.{row_before, test_is}

@@ -1,5 +1,5 @@
-use Rattle.std.proofs.Common.{◌≡◌, true, false, length, get_or, drop, sym, ◌∙◌, arith}
-use Rattle.std.proofs.lemmas.Bool.{ne_eqb, eq-eqb}
+use Rattle.std.proofs.Common.{arith}
+use Rattle.std.proofs.lemmas.Bool.{ne_eqb}
 use Rattle.tables.proofs.TableRows.{states_size, size_at, size_end}
 use Rattle.tables.proofs.table.block_size.Goals as goal
 use Rattle.tables.proofs.table.block_size.Goals.{then-next, else-next}

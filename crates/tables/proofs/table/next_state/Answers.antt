@@ -1,7 +1,5 @@
-use Rattle.std.proofs.Common.{◌≡◌, ℕ, ◌<◌, ◌≤◌, true, false, List, length, get_or, set, ℤ, pos, nat_abs, Some, None, sym, ap, ◌∙◌, arith, w32, SFits, to_z, of_z}
-use lib.Signed.{lt_z}
+use Rattle.std.proofs.Common.{◌≡◌, get_or, set, pos, nat_abs, Some, ap, ◌∙◌, arith, w32, to_z, of_z}
 use Rattle.std.proofs.lemmas.Int.{to_z-of_z}
-use Rattle.model.specs.Tables.{from}
 use Rattle.tables.proofs.TableRows.{from_none, from_some}
 use Rattle.tables.proofs.table.next_state.Goals as goal
 use Rattle.tables.proofs.table.next_state.Goals.{then-at-nexts-via-then-at-nexts, then-at-nexts-via-else-at-nexts+then-nexts-at}

@@ -1,6 +1,5 @@
-use Rattle.std.proofs.Common.{◌≡◌, ℕ, ◌+◌, ◌-◌, ◌*◌, ◌<◌, ◌≤◌, true, false, List, length, get_or, drop, sym, ap, ◌∙◌, arith}
-use Rattle.std.proofs.lemmas.Bool.{ne_eqb}
-use Rattle.tables.proofs.TableRows.{row_size, states_size, size_at, size_end, Written, start, without, with_next, finish, seven}
+use Rattle.std.proofs.Common.{◌≡◌, ◌-◌, length, sym, ap, ◌∙◌, arith}
+use Rattle.tables.proofs.TableRows.{row_size, states_size, size_end, start, without, with_next, finish, seven}
 use Rattle.tables.proofs.table.put_states.Goals as goal
 use Rattle.tables.proofs.table.put_states.Goals.{then-next, else-next}
 

@@ -1,4 +1,4 @@
-use Rattle.std.proofs.Common.{◌≡◌, ℕ, ◌+◌, ◌*◌, ◌<◌, ◌≤◌, length, sym, refl, ap, ◌∙◌, arith, length-set}
+use Rattle.std.proofs.Common.{sym, ap, ◌∙◌, arith, length-set}
 use Rattle.weaver.specs.Pieces.{owns, size_by}
 use Rattle.weaver.proofs.Starts.{start_zero, start_next, filled_first, filled_more}
 use Rattle.weaver.proofs.code.fill_starts.Goals as goal

@@ -1,4 +1,4 @@
-use Rattle.std.proofs.Common.{◌≡◌, ◌*◌, sym, ap, ◌∙◌, subst}
+use Rattle.std.proofs.Common.{◌*◌, sym, ap, subst}
 use Rattle.model.specs.Words.{quad_at}
 use Rattle.weaver.specs.Pieces.{own_of, Called}
 use Rattle.weaver.proofs.Starts.{decoded_called}

@@ -1,4 +1,4 @@
-use Rattle.std.proofs.Common.{◌≡◌, [], ◌∷◌, map, length, get_or, take, pos, sym, refl, ap, ◌∙◌, arith, take_all, w32, SFits, rules}
+use Rattle.std.proofs.Common.{[], ◌∷◌, map, get_or, pos, sym, ap, ◌∙◌, arith, take_all, w32, SFits, rules}
 use Rattle.std.proofs.lemmas.Int.{to_z-of_z}
 use Rattle.model.specs.Words.{flat, quad_of}
 use Rattle.policy.specs.Calls.{put_at}

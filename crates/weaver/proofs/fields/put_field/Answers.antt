@@ -1,4 +1,4 @@
-use Rattle.std.proofs.Common.{◌≡◌, ◌+◌, ◌≤◌, [], ◌∷◌, length, sym, refl, ap, ◌∙◌, arith}
+use Rattle.std.proofs.Common.{◌+◌, [], ◌∷◌, length, refl, ap, ◌∙◌, arith}
 use Rattle.model.specs.Words.{high, low}
 use Rattle.policy.specs.Calls.{put_at}
 use Rattle.policy.proofs.Writes.{part_put}

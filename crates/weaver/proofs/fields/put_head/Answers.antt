@@ -1,4 +1,4 @@
-use Rattle.std.proofs.Common.{[], ◌∷◌, refl, ◌∙◌}
+use Rattle.std.proofs.Common.{[], ◌∷◌, refl}
 use Rattle.model.specs.Words.{high, low}
 use Rattle.policy.proofs.Writes.{part_put}
 use Rattle.weaver.proofs.fields.put_head.Goals as goal

@@ -1,4 +1,4 @@
-use Rattle.std.proofs.Common.{◌≡◌, ℕ, ◌+◌, ◌*◌, ◌≤◌, List, [], ◌∷◌, map, length, take, sym, refl, ap, ◌∙◌, arith}
+use Rattle.std.proofs.Common.{◌≡◌, ◌+◌, ◌*◌, [], ◌∷◌, map, length, take, ap, ◌∙◌, arith}
 use Rattle.model.specs.Words.{high, low, flat, quad_of}
 use Rattle.policy.specs.Calls.{put_at}
 use Rattle.weaver.proofs.Bytes.{wrote_more, field_parts, cells_length}

@@ -1,4 +1,4 @@
-use Rattle.std.proofs.Common.{◌≡◌, ℕ, ◌+◌, ◌*◌, ◌<◌, ◌≤◌, List, [], length, sym, refl, ap, ◌∙◌, arith}
+use Rattle.std.proofs.Common.{length, sym, ap, ◌∙◌, arith}
 use Rattle.applet.specs.Applets.{meant}
 use Rattle.weaver.proofs.WovenFile.{count, file_length, file_put}
 use Rattle.weaver.proofs.files.put_file.Goals as goal

@@ -1,9 +1,9 @@
-use Rattle.std.proofs.Common.{◌≡◌, ℕ, ◌+◌, ◌*◌, ◌<◌, ◌≤◌, List, [], length, Ok, Err, sym, refl, ap, ◌∙◌, subst, arith}
+use Rattle.std.proofs.Common.{◌≡◌, length, Ok, Err, sym, ap, ◌∙◌, arith}
 use Rattle.std.proofs.lemmas.Result.{err_from_is_err_and}
 use Rattle.model.specs.Machine as machine
 use Rattle.model.specs.Policy.{Automaton, Blocks}
 use Rattle.model.specs.Reading.{write_applet, method_place}
-use Rattle.model.specs.Files.{plain_of, sized}
+use Rattle.model.specs.Files.{plain_of}
 use Rattle.applet.specs.Applets.{meant}
 use Rattle.weaver.specs.Weaves.{plain_part, woven_of}
 use Rattle.weaver.proofs.WovenFile.{plain_ok, plain_err, length_ok, length_err, sized_all, file_plain, file_sized, file_long, file_wide, file_done, ends_err, ends_ok}

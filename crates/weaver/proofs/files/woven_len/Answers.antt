@@ -1,4 +1,4 @@
-use Rattle.std.proofs.Common.{◌≡◌, ℕ, ◌+◌, ◌*◌, ◌<◌, ◌≤◌, [], length, get_or, Ok, Err, sym, refl, ap, ◌∙◌, arith}
+use Rattle.std.proofs.Common.{◌≡◌, ◌<◌, [], length, get_or, Ok, Err, sym, ap, ◌∙◌, arith}
 use Rattle.model.specs.declared.Refusal.TheVariants.{MethodTooLong}
 use Rattle.model.specs.Machine as machine
 use Rattle.model.specs.Policy.{Automaton, Blocks}
@@ -8,7 +8,7 @@ use Rattle.applet.specs.Applets.{meant}
 use Rattle.weaver.specs.Pieces.{owns}
 use Rattle.weaver.specs.Weaves.{MethodAt, woven_of}
 use Rattle.weaver.proofs.WovenMethod.{found_size}
-use Rattle.weaver.proofs.WovenFile.{count, woven_at, measured_none, measured_more, measured_stops, measured_all}
+use Rattle.weaver.proofs.WovenFile.{count, woven_at, measured_more, measured_stops, measured_all}
 use Rattle.weaver.proofs.files.woven_len.Goals as goal
 use Rattle.weaver.proofs.files.woven_len.Goals.{After-fill_starts-size}
 

@@ -1,8 +1,8 @@
-use Rattle.std.proofs.Common.{◌≡◌, length, sym, refl, ap, ◌∙◌}
+use Rattle.std.proofs.Common.{sym, ap, ◌∙◌}
 use Rattle.std.specs.Option.{option_map}
 use Rattle.model.specs.Fields.{contents_at}
-use Rattle.applet.specs.Applets.{found, places_of, nth}
-use Rattle.weaver.proofs.Passes.{no_method, method_found, some_same}
+use Rattle.applet.specs.Applets.{found}
+use Rattle.weaver.proofs.Passes.{method_found, some_same}
 use Rattle.weaver.proofs.methods.nth_method.Goals as goal
 
 pub returns : goal.returns

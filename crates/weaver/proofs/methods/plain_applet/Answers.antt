@@ -1,4 +1,4 @@
-use Rattle.std.proofs.Common.{◌≡◌, ◌+◌, length, Err, sym, refl, ap, ◌∙◌, arith}
+use Rattle.std.proofs.Common.{◌+◌, length, Err, ap, ◌∙◌, arith}
 use Rattle.model.specs.declared.Refusal.TheVariants.{NotPlain}
 use Rattle.applet.specs.Applets.{meant}
 use Rattle.weaver.proofs.Passes.{filled_cells, no_cells}

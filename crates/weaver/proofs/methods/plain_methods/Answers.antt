@@ -1,7 +1,7 @@
-use Rattle.std.proofs.Common.{◌≡◌, ℕ, ◌+◌, ◌*◌, ◌<◌, ◌≤◌, [], length, get_or, Err, sym, refl, ap, ◌∙◌, arith}
+use Rattle.std.proofs.Common.{◌≡◌, ◌+◌, ◌*◌, [], get_or, Err, sym, ap, ◌∙◌, arith}
 use Rattle.std.proofs.lemmas.Result.{err_from_is_err_and}
 use Rattle.model.specs.Machine as machine
-use Rattle.model.specs.Reading.{instr_place, method_place}
+use Rattle.model.specs.Reading.{instr_place}
 use Rattle.model.specs.Files.{plain_code}
 use Rattle.applet.specs.Applets.{meant}
 use Rattle.weaver.specs.Pieces.{instrs}

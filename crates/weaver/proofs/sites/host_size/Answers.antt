@@ -1,4 +1,4 @@
-use Rattle.std.proofs.Common.{◌≡◌, ◌≤◌, length, sym, ◌∙◌, arith}
+use Rattle.std.proofs.Common.{sym, ◌∙◌, arith}
 use Rattle.model.specs.declared.Moment.{Moment}
 use Rattle.weaver.proofs.SiteBytes.{unwatched_size, watched_size}
 use Rattle.weaver.proofs.sites.host_size.Goals as goal

@@ -1,4 +1,4 @@
-use Rattle.std.proofs.Common.{◌≡◌, length, sym, ◌∙◌, arith}
+use Rattle.std.proofs.Common.{arith}
 use Rattle.weaver.proofs.SiteBytes.{block_put}
 use Rattle.weaver.proofs.sites.put_block.Goals as goal
 

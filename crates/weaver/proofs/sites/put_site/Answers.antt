@@ -1,4 +1,4 @@
-use Rattle.std.proofs.Common.{◌≡◌, ℕ, ◌+◌, ◌*◌, ◌≤◌, List, [], ◌∷◌, map, length, sym, ap, ◌∙◌, subst, arith}
+use Rattle.std.proofs.Common.{ℕ, ◌+◌, List, [], ◌∷◌, map, ap, ◌∙◌, arith}
 use lib.ListN.{length-map}
 use Rattle.model.specs.declared.Instr.{Instr}
 use Rattle.model.specs.declared.Own.{Own}
@@ -6,7 +6,7 @@ use Rattle.model.specs.declared.Test.{Test}
 use Rattle.model.specs.declared.Moment.{Moment}
 use Rattle.model.specs.Reading.{write_code}
 use Rattle.policy.specs.Calls.{put_at}
-use Rattle.weaver.proofs.SiteBytes.{Coded, coded_none, coded_more, site_is}
+use Rattle.weaver.proofs.SiteBytes.{coded_none, coded_more, site_is}
 use Rattle.weaver.proofs.sites.put_site.Goals as goal
 
 pub returns : goal.returns

@@ -1,4 +1,4 @@
-use Rattle.std.proofs.Common.{◌≡◌, ℕ, ◌<◌, length, sym, refl, ap, ◌∙◌, subst}
+use Rattle.std.proofs.Common.{ℕ, ◌<◌, sym, refl, ap, ◌∙◌, subst}
 use lib.ListN.{length-map}
 use Rattle.model.proofs.Accepted.{accepted}
 use Rattle.applet.proofs.Loops.{bytes_from}

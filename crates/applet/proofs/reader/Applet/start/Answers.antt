@@ -1,4 +1,4 @@
-use Rattle.std.proofs.Common.{◌≡◌, ℕ, ◌*◌, ◌/◌, ◌≤◌, List, map, length, ℤ, Some, sym, ap, ◌∙◌, arith, w32, to_z, of_z}
+use Rattle.std.proofs.Common.{ℕ, ◌*◌, List, map, ℤ, Some, sym, ap, ◌∙◌, arith, w32, to_z, of_z}
 use lib.ListN.{length-map}
 use Rattle.std.proofs.lemmas.Int.{to_z-of_z}
 use borrow.Author.Gap.{read_sfits}

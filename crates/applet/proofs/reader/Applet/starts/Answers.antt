@@ -1,4 +1,4 @@
-use Rattle.std.proofs.Common.{◌≡◌, ℕ, ◌/◌, List, length, sym, ap, ◌∙◌}
+use Rattle.std.proofs.Common.{ℕ, ◌/◌, List, length, sym, ap, ◌∙◌}
 use lib.ListN.{length-map}
 use Rattle.applet.proofs.Loops.{length_quads}
 use Rattle.applet.proofs.reader.Applet.starts.Goals as goal

@@ -1,4 +1,4 @@
-use Rattle.std.proofs.Common.{◌≡◌, ◌≤◌, ◌++◌, map, length, take, drop}
+use Rattle.std.proofs.Common.{◌≡◌, ◌≤◌, ◌++◌, map, take, drop}
 use Rattle.model.specs.Runs as model
 use Rattle.machine.specs.Machines.{program, holds_now}
 use Rattle.machine.specs.Acts.{act_of, seen_of}

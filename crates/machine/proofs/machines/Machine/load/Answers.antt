@@ -1,4 +1,3 @@
-use Rattle.std.proofs.Common.{◌≡◌, sym, refl, ap, ◌∙◌}
 use Rattle.std.proofs.lemmas.Result.{err_from_is_err_and}
 use Rattle.applet.specs.Applets.{meant}
 use Rattle.machine.proofs.Started.{load_ok, load_err, few}

@@ -1,4 +1,4 @@
-use Rattle.std.proofs.Common.{◌≡◌, ◌<◌, length, rules}
+use Rattle.std.proofs.Common.{◌<◌, length, rules}
 use Rattle.machine.specs.declared.threads.Stand.{Stand}
 use Rattle.machine.proofs.Rows.{made_to, awaiting_at}
 use Rattle.machine.proofs.states.State.awaiting.Goals as goal

@@ -1,4 +1,4 @@
-use Rattle.std.proofs.Common.{◌≡◌, ◌<◌, length, refl, rules}
+use Rattle.std.proofs.Common.{◌<◌, length, refl, rules}
 use Rattle.model.specs.Machine.{local}
 use Rattle.model.specs.declared.Own.{Own}
 use Rattle.machine.proofs.Rows.{ran_own}

@@ -1,4 +1,4 @@
-use Rattle.std.proofs.Common.{◌≡◌, ℕ, false, List, ◌++◌, map, length, replicate, ℤ, pos, None, sym, refl, ap, ◌∙◌}
+use Rattle.std.proofs.Common.{false, List, ◌++◌, map, length, ℤ, pos, None, ap, ◌∙◌}
 use Rattle.std.proofs.lemmas.List.{drop-replicate}
 use Rattle.model.specs.Machine.{zeros, new_thread}
 use Rattle.applet.specs.Applets.{meant}

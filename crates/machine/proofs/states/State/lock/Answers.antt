@@ -1,4 +1,4 @@
-use Rattle.std.proofs.Common.{◌≡◌, ◌<◌, length, rules}
+use Rattle.std.proofs.Common.{◌<◌, length, rules}
 use Rattle.machine.proofs.Rows.{locked}
 use Rattle.machine.proofs.states.State.lock.Goals as goal
 

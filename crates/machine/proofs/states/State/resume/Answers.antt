@@ -1,4 +1,4 @@
-use Rattle.std.proofs.Common.{◌≡◌, ◌<◌, length, sym, w32, rules}
+use Rattle.std.proofs.Common.{◌<◌, length, sym, w32, rules}
 use Rattle.std.proofs.lemmas.Int.{to_z-of_z}
 use Rattle.machine.proofs.Rows.{resumed_held, resumed_free}
 use Rattle.machine.proofs.states.State.resume.Goals as goal

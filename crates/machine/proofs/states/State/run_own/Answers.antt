@@ -1,4 +1,4 @@
-use Rattle.std.proofs.Common.{◌≡◌, ◌<◌, length, sym, ap, ◌∙◌, rules}
+use Rattle.std.proofs.Common.{◌<◌, length, sym, ap, ◌∙◌, rules}
 use Rattle.model.specs.Machine as model
 use Rattle.model.specs.Machine.{local}
 use Rattle.machine.proofs.Rows.{at, ran_own}

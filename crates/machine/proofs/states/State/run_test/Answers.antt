@@ -1,4 +1,4 @@
-use Rattle.std.proofs.Common.{◌≡◌, ◌<◌, length, rules}
+use Rattle.std.proofs.Common.{◌<◌, length, rules}
 use Rattle.model.specs.Policy.{turn}
 use Rattle.machine.proofs.Rows.{tested}
 use Rattle.machine.proofs.states.State.run_test.Goals as goal

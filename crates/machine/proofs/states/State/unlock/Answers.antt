@@ -1,4 +1,4 @@
-use Rattle.std.proofs.Common.{◌≡◌, ◌<◌, length, sym, ap, ◌∙◌, rules}
+use Rattle.std.proofs.Common.{◌<◌, length, sym, rules}
 use Rattle.machine.proofs.Rows.{unlocked, not_unlocked}
 use Rattle.machine.proofs.states.State.unlock.Goals as goal
 

@@ -1,4 +1,3 @@
-use Rattle.std.proofs.Common.{refl}
 use Rattle.machine.proofs.Frames.{room}
 use Rattle.machine.proofs.threads.Thread.call.Goals as goal
 

@@ -1,4 +1,4 @@
-use Rattle.std.proofs.Common.{◌≡◌, ℕ, ◌-◌, Bool, true, false, List, length, take, drop, Some, sym, ap, ◌∙◌, arith, length-append, length-drop, length-take, w32, to_z, of_z}
+use Rattle.std.proofs.Common.{◌≡◌, ◌-◌, length, take, drop, Some, sym, ap, ◌∙◌, arith, length-append, length-drop, length-take, w32, to_z, of_z}
 use Rattle.std.proofs.lemmas.Int.{to_z-of_z}
 use Rattle.model.specs.Policy.{Event}
 use Rattle.policy.specs.Calls.{is_taken}

@@ -1,4 +1,4 @@
-use Rattle.std.proofs.Common.{◌≡◌, true, false, ◌||◌, Ok, Err, sym, ap, ◌∙◌}
+use Rattle.std.proofs.Common.{Ok, Err, ap, ◌∙◌}
 use Rattle.std.proofs.lemmas.Result.{err_from_is_err_and}
 use Rattle.policy.proofs.Pairs.{watched_first, watched_second, watched_both, or_then, or_else}
 use Rattle.policy.proofs.pair.PairPolicy.watches.Goals as goal

@@ -1,4 +1,4 @@
-use Rattle.std.proofs.Common.{◌≡◌, take, Err, sym, refl, ap, ◌∙◌, w32, to_z, of_z}
+use Rattle.std.proofs.Common.{◌≡◌, take, Err, refl, ap, ◌∙◌, w32, to_z, of_z}
 use Rattle.std.proofs.lemmas.Int.{to_z-of_z}
 use Rattle.std.proofs.lemmas.Result.{err_from_is_err_and}
 use Rattle.model.specs.Policy.{Event}

@@ -1,4 +1,4 @@
-use Rattle.std.proofs.Common.{◌≡◌, true, is_ok, sym, ap, ◌∙◌}
+use Rattle.std.proofs.Common.{is_ok, sym, ap, ◌∙◌}
 use Rattle.model.specs.Rules.{reads_rules, rules_in}
 use Rattle.model.proofs.RuleFiles.{refusing_rules_read, refusing_rules_in, rules_refused_in}
 use Rattle.rules.proofs.Checking.{refused_read}

@@ -1,4 +1,4 @@
-use Rattle.std.proofs.Common.{◌≡◌, sym, ◌∙◌, arith}
+use Rattle.std.proofs.Common.{sym, ◌∙◌, arith}
 use Rattle.rules.proofs.Expressions.{first_at, first_none}
 use Rattle.rules.proofs.tokens.Token.at.Goals as goal
 

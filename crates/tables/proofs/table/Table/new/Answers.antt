@@ -1,4 +1,4 @@
-use Rattle.std.proofs.Common.{◌≡◌, true, sym, refl, ap, ◌∙◌, subst}
+use Rattle.std.proofs.Common.{sym, refl, ap, ◌∙◌}
 use Rattle.model.specs.Tables.{reads_table, table_in}
 use Rattle.model.proofs.TableFiles.{reads_if, refused_if, refusing_reads, refusing_in, refuses_calls}
 use Rattle.tables.proofs.table.Table.new.Goals as goal

@@ -1,4 +1,4 @@
-use Rattle.std.proofs.Common.{◌≡◌, ℕ, ◌+◌, ◌-◌, ◌*◌, ◌<◌, ◌≤◌, true, List, length, get_or, take, drop, sym, ap, ◌∙◌, subst, arith, length-drop, length-take}
+use Rattle.std.proofs.Common.{◌≡◌, ℕ, ◌+◌, ◌-◌, ◌*◌, ◌<◌, ◌≤◌, true, List, length, get_or, take, drop, sym, ◌∙◌, subst, arith, length-drop, length-take}
 use Rattle.model.specs.Tables.{table_in, reads_table, row_in}
 use Rattle.model.proofs.TableFiles.{file_in, row_ends}
 use Rattle.tables.specs.Tables.{no_row}

@@ -1,4 +1,4 @@
-use Rattle.std.proofs.Common.{◌≡◌, ◌+◌, length, arith}
+use Rattle.std.proofs.Common.{◌≡◌, ◌+◌, arith}
 use native.Mathlib.Nat.{div-eq_of_eq-mul_right}
 use Rattle.model.specs.Tables.{table_in}
 use Rattle.model.proofs.TableFiles.{file_in}
