@@ -1,6 +1,6 @@
 -- The instruction at an index of a method's code.
 use Rattle.std.proofs.Common.{◌≡◌, ℕ, zero, suc, ◌+◌, ◌*◌, ◌<◌, ◌≤◌, true, leb, List, [], ◌∷◌, map, length, get_or, IfSome, Some, None, Option, sym, refl, ap, ◌∙◌, arith, rules}
-use Rattle.std.specs.List.{AllByRecursion as All}
+use Rattle.std.specs.List.{AllByRecursion}
 use Rattle.std.specs.Option.{option_map}
 use Rattle.model.specs.Fields.{contents_at}
 use Rattle.std.proofs.lemmas.Bool.{and_parts, ltb-true, leb-true, leb-false, cond_both}
@@ -50,7 +50,7 @@ module _ (n : ℕ) where
 abbrev Good : Entry → Type 0
 Good e = (n x y : ℕ) → x < limit n e.x → y < limit n e.y → Valid (e.make x y)
 
-good : All Good table
+good : AllByRecursion Good table
 unfolding table
 good = search rules
 

@@ -2,7 +2,7 @@
 use Rattle.std.proofs.Common.{◌≡◌, ℕ, zero, suc, ◌+◌, ◌<◌, Bool, true, false, ◌&&◌, eqb, ltb, leb, List, [], ◌∷◌, ◌++◌, map, length, get_or, take, drop, Some, None, Ok, Err, Option, sym, refl, ap, ◌∙◌, ap₂, arith, take-append-drop, w32, SFits}
 use lib.ListN.{length-map}
 use borrow.Author.Gap.{read_sfits}
-use Rattle.std.specs.List.{AllByRecursion as All}
+use Rattle.std.specs.List.{AllByRecursion}
 use Rattle.std.proofs.ByRecursion.{All-take, All-drop}
 use Rattle.std.proofs.lemmas.List.{length-take-le}
 use Rattle.std.proofs.lemmas.Int.{of_z-to_z}
@@ -33,7 +33,7 @@ needed false r s b h k = absurd (err_ok h)
 pub within_true : (a b n : ℕ) → within a b n ≡ true → Within a b n
 within_true a b n h = let p = and_parts _ _ h in (leb-true a n p.0, leb-true n b p.1)
 
-pub every_true : {X : Type 0} (f : X → Bool) (P : X → Type 0) → ((x : X) → f x ≡ true → P x) → (xs : List X) → every f xs ≡ true → All P xs
+pub every_true : {X : Type 0} (f : X → Bool) (P : X → Type 0) → ((x : X) → f x ≡ true → P x) → (xs : List X) → every f xs ≡ true → AllByRecursion P xs
 every_true f P k [] h = tt
 every_true f P k (x ∷ xs) h = let p = and_parts _ _ h in (k x p.0, every_true f P k xs p.1)
 
@@ -41,7 +41,7 @@ every_true f P k (x ∷ xs) h = let p = and_parts _ _ h in (k x p.0, every_true 
 abbrev pub Whole : Quad → Type 0
 Whole q = (q.a < 256) × (q.b < 256) × (q.c < 256) × (q.d < 256)
 
-pub whole_quads : (bs : List ℕ) → Bytes bs → All Whole (quads bs)
+pub whole_quads : (bs : List ℕ) → Bytes bs → AllByRecursion Whole (quads bs)
 whole_quads [] h = tt
 whole_quads (a ∷ []) h = tt
 whole_quads (a ∷ b ∷ []) h = tt
@@ -86,7 +86,7 @@ landed_is size i p (Some d) c e = cond_both (lands size i d) (Ok d) (refuse (Bad
     (λ y q. let z : d ≡ c = cc in (ap Some z, rw (← z) y)) (λ y q. absurd (err_ok q)) e
 
 pub read_code_is : (n size i p : ℕ) (qs : List Quad) (cs : List Instr) → read_code n size i p qs ≡ Ok cs →
-    (All Whole qs → map encode cs ≡ qs) × (length cs ≡ length qs) × Sound n size i cs
+    (AllByRecursion Whole qs → map encode cs ≡ qs) × (length cs ≡ length qs) × Sound n size i cs
 read_code_is n size i p [] cs e = let z : [] ≡ cs = cc in rw (← z) (λ h. refl, refl, tt)
 read_code_is n size i p (q ∷ qs) cs e =
     bound _ _ _ e λ c e₁ e₂.
@@ -124,7 +124,7 @@ over_is b p [] s x e = (refl, e)
 over_is b p (y ∷ r) s x e = absurd (err_ok e)
 
 pub code_fields_is : (n p : ℕ) (r : List ℕ) (ms : List Field) → code_fields n p r ≡ Ok ms →
-    (Bytes r → (row ms ≡ r) × All ByteField ms) × (length ms ≡ n) × All Coded ms
+    (Bytes r → (row ms ≡ r) × AllByRecursion ByteField ms) × (length ms ≡ n) × AllByRecursion Coded ms
 code_fields_is zero p r ms e = let o = over_is BadField p r (Ok []) ms e in let z : [] ≡ ms = cc in rw (← z) (λ k. (o.0, tt), refl, tt)
 code_fields_is (suc n) p r ms e =
     bound _ _ _ e λ m e₁ e₂.
@@ -139,8 +139,8 @@ code_fields_is (suc n) p r ms e =
       (t, rest.2),
     )
 
-pub read_codes_is : (n : ℕ) (ms : List Field) (cs : List (List Instr)) → All Coded ms → read_codes n ms ≡ Ok cs →
-    (All ByteField ms → write_codes cs ≡ row ms) × (length cs ≡ length ms) × All (λ c. Within 1 4096 (length c)) cs × All (λ c. Sound n (length c) 0 c) cs
+pub read_codes_is : (n : ℕ) (ms : List Field) (cs : List (List Instr)) → AllByRecursion Coded ms → read_codes n ms ≡ Ok cs →
+    (AllByRecursion ByteField ms → write_codes cs ≡ row ms) × (length cs ≡ length ms) × AllByRecursion (λ c. Within 1 4096 (length c)) cs × AllByRecursion (λ c. Sound n (length c) 0 c) cs
 read_codes_is n [] cs k e = let z : [] ≡ cs = cc in rw (← z) (λ h. refl, refl, tt, tt)
 read_codes_is n (m ∷ ms) cs k e =
     bound _ _ _ e λ c e₁ e₂.
@@ -157,11 +157,11 @@ read_codes_is n (m ∷ ms) cs k e =
       (rw l d.2, rest.3),
     )
 
-pub starts_signed : (qs : List Quad) → All (SFits w32) (map signed_of qs)
+pub starts_signed : (qs : List Quad) → AllByRecursion (SFits w32) (map signed_of qs)
 starts_signed [] = tt
 starts_signed (q ∷ qs) = (read_sfits w32 _, starts_signed qs)
 
-pub starts_is : (qs : List Quad) → All Whole qs → map quad_of (map signed_of qs) ≡ qs
+pub starts_is : (qs : List Quad) → AllByRecursion Whole qs → map quad_of (map signed_of qs) ≡ qs
 starts_is [] h = refl
 starts_is (q ∷ qs) h =
     let b = of_z-to_z w32 (word (word (word q.a q.b) q.c) q.d) (omega arith) in

@@ -3,7 +3,7 @@ use Rattle.std.proofs.Common.{◌≡◌, ℕ, zero, suc, ◌+◌, ◌<◌, Bool,
 use mathlib.Core.Bool.{false≢true}
 use lib.ListN.{length-map}
 use Rattle.std.proofs.lemmas.List.{get_or-append-add, length-replicate}
-use Rattle.std.specs.List.{AllByRecursion as All}
+use Rattle.std.specs.List.{AllByRecursion}
 use Rattle.model.specs.declared.Moment.{Moment}
 use Rattle.model.specs.declared.Own.{Own}
 use Rattle.model.specs.declared.Test.{Test}
@@ -80,16 +80,16 @@ module _ (watched : ℕ → Bool) (block : ℕ → Moment → List Test) where
       by (Some w) h ih = rw (ap target h.1, ← ih) (stray_site block es i w.call w.raised _)
 
   -- targets that land are no fault, and the other way round
-  pub missed_none : (es : List Bool) (i : ℕ) (ds : List Own) → All (λ d. is_entry es (target d) ≡ true) ds → missed es i ds ≡ None
+  pub missed_none : (es : List Bool) (i : ℕ) (ds : List Own) → AllByRecursion (λ d. is_entry es (target d) ≡ true) ds → missed es i ds ≡ None
   missed_none es i [] h = refl
   missed_none es i (d ∷ ds) h = rw h.0 (missed_none es (i + size watched block d) ds h.1)
 
-  pub none_missed : (es : List Bool) (i : ℕ) (ds : List Own) → missed es i ds ≡ None → All (λ d. is_entry es (target d) ≡ true) ds
+  pub none_missed : (es : List Bool) (i : ℕ) (ds : List Own) → missed es i ds ≡ None → AllByRecursion (λ d. is_entry es (target d) ≡ true) ds
   none_missed es i [] h = tt
   none_missed es i (d ∷ ds) h = by (is_entry es (target d)) refl (none_missed es (i + size watched block d) ds)
     where
-      by : (b : Bool) → is_entry es (target d) ≡ b → (missed es (i + size watched block d) ds ≡ None → All (λ d. is_entry es (target d) ≡ true) ds) →
-          (is_entry es (target d) ≡ true) × All (λ d. is_entry es (target d) ≡ true) ds
+      by : (b : Bool) → is_entry es (target d) ≡ b → (missed es (i + size watched block d) ds ≡ None → AllByRecursion (λ d. is_entry es (target d) ≡ true) ds) →
+          (is_entry es (target d) ≡ true) × AllByRecursion (λ d. is_entry es (target d) ≡ true) ds
       by true q ih = (q, ih (rw q at h))
       by false q ih = never _ _ (rw q at h)
 

@@ -1,7 +1,7 @@
 -- Enforcement over files: what check accepts is woven, and what weave writes check accepts.
 use Rattle.std.proofs.Common.{◌≡◌, ℕ, ◌+◌, ◌<◌, ◌≤◌, true, ltb, leb, List, [], ◌∷◌, map, length, ℤ, pos, negsuc, Some, None, Ok, Option, sym, refl, ap, ◌∙◌, ap₂, w16}
 use lib.ListN.{length-map}
-use Rattle.std.specs.List.{AllByRecursion as All}
+use Rattle.std.specs.List.{AllByRecursion}
 use Rattle.std.proofs.ByRecursion.{All-map, All-append, All-weaker}
 use Rattle.std.proofs.lemmas.Int.{to_z-of_z}
 use Rattle.std.proofs.lemmas.Bool.{ltb-true, leb-true, le-leb, eqb-true, eq-eqb, and_parts, and_from, false≢true}
@@ -56,7 +56,7 @@ same_cells_refl (x ∷ xs) = and_from _ _ (eqZ_refl x) (same_cells_refl xs)
 
 -- ---- what reading says of code
 
-sound_remade : (n size i : ℕ) (cs : List Instr) → Sound n size i cs → All Remade cs
+sound_remade : (n size i : ℕ) (cs : List Instr) → Sound n size i cs → AllByRecursion Remade cs
 sound_remade n size i [] h = tt
 sound_remade n size i (c ∷ cs) h = let r = h.0.0 in ((r.entry, r.listed, r.same), sound_remade n size (i + 1) cs h.1)
 
@@ -77,7 +77,7 @@ aimed size i Own.Ret h = tt
 aimed size i (Own.Host k t) h = ltb-true t size (and_parts (ltb t size) (ltb (i + 1) size) h).0
 aimed size i Own.End h = tt
 
-sound_aimed : (n size i : ℕ) (cs : List Own) → Sound n size i (map Instr.Own cs) → All (λ c. Aims (λ t. t < size) (target c)) cs
+sound_aimed : (n size i : ℕ) (cs : List Own) → Sound n size i (map Instr.Own cs) → AllByRecursion (λ c. Aims (λ t. t < size) (target c)) cs
 sound_aimed n size i [] h = tt
 sound_aimed n size i (c ∷ cs) h = (aimed size i c h.0.1, sound_aimed n size (i + 1) cs h.1)
 
@@ -110,11 +110,11 @@ module _ (A : Automaton) (B : Blocks) (S : Offers A B) where
   abbrev blk : ℕ → Moment → List Test
   blk k t = B k t 0
 
-  tests_remade : (k : ℕ) (t : Moment) → All Remade (map Instr.Test (blk k t))
+  tests_remade : (k : ℕ) (t : Moment) → AllByRecursion Remade (map Instr.Test (blk k t))
   tests_remade k t = All-map Remade Instr.Test (blk k t)
       (All-weaker (Formed t 0 (0 + A.width)) (λ c. Remade (Instr.Test c)) (formed_remade t 0 (0 + A.width)) (blk k t) (S.shows.formed k t 0))
 
-  site_remade : (i k : ℕ) → All Remade (inner blk i k)
+  site_remade : (i k : ℕ) → AllByRecursion Remade (inner blk i k)
   site_remade i k =
       All-append Remade (map Instr.Test (blk k Moment.Before)) _ (tests_remade k Moment.Before) (
         host_remade k _,
@@ -134,8 +134,8 @@ module _ (A : Automaton) (B : Blocks) (S : Offers A B) where
   fault_none at None u e = refl
   fault_none at (Some f) u e = absurd (err_ok e)
 
-  codes_woven : (at : ℕ → ℕ → ℕ) (m : ℕ) (cs : List (List Instr)) (u : Unit {0}) → All (All Remade) cs → check_codes A B at m cs ≡ Ok u →
-      (ds : List (List Own)) × (map (woven A.watched blk) ds ≡ cs) × All Targeted ds
+  codes_woven : (at : ℕ → ℕ → ℕ) (m : ℕ) (cs : List (List Instr)) (u : Unit {0}) → AllByRecursion (AllByRecursion Remade) cs → check_codes A B at m cs ≡ Ok u →
+      (ds : List (List Own)) × (map (woven A.watched blk) ds ≡ cs) × AllByRecursion Targeted ds
   codes_woven at m [] u h e = ([], refl, tt)
   codes_woven at m (c ∷ cs) u h e =
       bound _ _ _ e λ v e₁ e₂.
@@ -144,21 +144,21 @@ module _ (A : Automaton) (B : Blocks) (S : Offers A B) where
       (w.0 ∷ rest.0, ap₂ {C = List (List Instr)} (λ x xs. x ∷ xs) w.1 rest.1, (w.2, rest.2))
 
   -- what check accepts is the woven applet of a plain one
-  pub accepted_applet : (a : Applet) (u : Unit {0}) → All (All Remade) a.methods → check_applet A B a ≡ Ok u →
-      (p : Plain) × (woven_applet A B p ≡ a) × All Targeted p.code
+  pub accepted_applet : (a : Applet) (u : Unit {0}) → AllByRecursion (AllByRecursion Remade) a.methods → check_applet A B a ≡ Ok u →
+      (p : Plain) × (woven_applet A B p ≡ a) × AllByRecursion Targeted p.code
   accepted_applet a u h e =
       needed _ _ _ _ e λ t e.
       let s = sym (same_cells_true a.starts A.starts t) in
       let w = codes_woven (instr_place a) 0 a.methods u h e in
       (record { entries = a.entries; code = w.0 }, λ i. record { entries = a.entries; starts = s i; methods = w.1 i }, w.2)
 
-  woven_codes : (at : ℕ → ℕ → ℕ) (m : ℕ) (cs : List (List Own)) → All Targeted cs → check_codes A B at m (map (woven A.watched blk) cs) ≡ Ok tt
+  woven_codes : (at : ℕ → ℕ → ℕ) (m : ℕ) (cs : List (List Own)) → AllByRecursion Targeted cs → check_codes A B at m (map (woven A.watched blk) cs) ≡ Ok tt
   unfolding ◌>>=◌
   woven_codes at m [] h = refl
   woven_codes at m (c ∷ cs) h = rw (accepts_woven A.watched blk c h.0) (woven_codes at (m + 1) cs h.1)
 
   -- check accepts the woven applet of a plain one
-  pub accepts_applet : (p : Plain) → All Targeted p.code → check_applet A B (woven_applet A B p) ≡ Ok tt
+  pub accepts_applet : (p : Plain) → AllByRecursion Targeted p.code → check_applet A B (woven_applet A B p) ≡ Ok tt
   unfolding ◌>>=◌
   accepts_applet p h = rw (same_cells_refl A.starts) (woven_codes (instr_place (woven_applet A B p)) 0 p.code h)
 
@@ -200,7 +200,7 @@ module _ (A : Automaton) (B : Blocks) (S : Showing A B) where
         now = ap read_applet (sym w.2) ∙ round (woven_applet A B p) better h.short;
       }
 
-  pub targeted : (p : Plain) → Valid (plain_applet p) → All Targeted p.code
+  pub targeted : (p : Plain) → Valid (plain_applet p) → AllByRecursion Targeted p.code
   targeted p good =
       let n = length (plain_applet p).methods in
       All-weaker (λ c. Sound n (length (map Instr.Own c)) 0 (map Instr.Own c)) Targeted (sound_targeted n) p.code
@@ -212,7 +212,7 @@ module _ (A : Automaton) (B : Blocks) (S : Showing A B) where
 
   -- what check accepts reads as the woven applet of a plain one
   pub checked : (f : List ℕ) (area : ℕ) → check_file A B f area ≡ Ok tt →
-      (p : Plain) × Offers A B × (read_applet f ≡ Ok (woven_applet A B p)) × All Targeted p.code
+      (p : Plain) × Offers A B × (read_applet f ≡ Ok (woven_applet A B p)) × AllByRecursion Targeted p.code
   checked f area e =
       bound _ _ _ e λ u eu e.
       bound _ _ _ e λ a ea e.
@@ -220,7 +220,7 @@ module _ (A : Automaton) (B : Blocks) (S : Showing A B) where
       let O = offers (narrow_by u eu) in
       let n = length a.methods in
       let good = (accepted f a ea).1 in
-      let remade = All-weaker (λ c. Sound n (length c) 0 c) (All Remade) (λ c. sound_remade n (length c) 0 c) a.methods good.sound in
+      let remade = All-weaker (λ c. Sound n (length c) 0 c) (AllByRecursion Remade) (λ c. sound_remade n (length c) 0 c) a.methods good.sound in
       let w = accepted_applet A B O a tt remade e in
       (w.0, O, ea ∙ ap Ok (sym w.1), w.2)
 

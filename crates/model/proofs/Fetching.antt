@@ -1,7 +1,7 @@
 -- The code of a method stands in the file at its place, and its instructions are decoded there.
 use Rattle.std.proofs.Common.{◌≡◌, ℕ, zero, suc, ◌+◌, ◌*◌, ◌<◌, ◌&&◌, eqb, leb, List, [], ◌∷◌, map, length, get_or, take, drop, Some, Ok, sym, refl, ap, ◌∙◌, subst, add-zero, arith, length-append, get_or-drop, get_or-take, drop-drop}
 use lib.ListN.{length-map}
-use Rattle.std.specs.List.{AllByRecursion as All}
+use Rattle.std.specs.List.{AllByRecursion}
 use Rattle.std.proofs.lemmas.List.{length-take-le}
 use Rattle.std.proofs.lemmas.Bool.{leb-true, and_parts, cond_both}
 use Rattle.model.specs.declared.Instr.{Instr}
@@ -92,7 +92,7 @@ abbrev MethodsAt : ℕ → List ℕ → ℕ → List (List Instr) → Type 0
 MethodsAt n f p [] = Unit {0}
 MethodsAt n f p (c ∷ cs) = CodeAt n f (p + 3) c × MethodsAt n f (p + (3 + 4 * length c)) cs
 
-methods_stand : (f : List ℕ) (n p : ℕ) (ms : List Field) (cs : List (List Instr)) → All Coded ms → FieldsAt f p ms → read_codes n ms ≡ Ok cs →
+methods_stand : (f : List ℕ) (n p : ℕ) (ms : List Field) (cs : List (List Instr)) → AllByRecursion Coded ms → FieldsAt f p ms → read_codes n ms ≡ Ok cs →
     MethodsAt n f p cs
 methods_stand f n p [] cs k h e = let z : [] ≡ cs = cc in rw (← z) tt
 methods_stand f n p (m ∷ ms) cs k h e =

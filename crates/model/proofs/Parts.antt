@@ -1,7 +1,7 @@
 -- What a reader hands out is a part of the file.
 use Rattle.std.proofs.Common.{◌≡◌, ℕ, zero, suc, ◌+◌, ◌-◌, ◌*◌, ◌<◌, ◌≤◌, ◌&&◌, eqb, leb, List, [], ◌∷◌, map, length, get_or, take, drop, Ok, sym, refl, ap, ◌∙◌, subst, ap₂, add-zero, arith}
 use lib.ListN.{length-map}
-use Rattle.std.specs.List.{AllByRecursion as All}
+use Rattle.std.specs.List.{AllByRecursion}
 use Rattle.std.proofs.ByRecursion.{All-take, All-drop}
 use Rattle.std.proofs.lemmas.List.{length-take-le, length-take, length-drop, drop-drop, get_or-drop, get_or-take, drop-take, take-take}
 use Rattle.std.proofs.lemmas.Bool.{leb-true, eqb-true, and_parts, cond_both}
@@ -111,7 +111,7 @@ abbrev MethodsAt : List ℕ → ℕ → List (List Instr) → Type 0
 MethodsAt f p [] = Unit {0}
 MethodsAt f p (c ∷ cs) = MethodAt f p c × MethodsAt f (p + (3 + 4 * length c)) cs
 
-methods_stand : (f : List ℕ) (n p : ℕ) (ms : List Field) (cs : List (List Instr)) → All Coded ms → RowAt f p ms → read_codes n ms ≡ Ok cs → MethodsAt f p cs
+methods_stand : (f : List ℕ) (n p : ℕ) (ms : List Field) (cs : List (List Instr)) → AllByRecursion Coded ms → RowAt f p ms → read_codes n ms ≡ Ok cs → MethodsAt f p cs
 methods_stand f n p [] cs k h e = let z : [] ≡ cs = cc in rw (← z) tt
 methods_stand f n p (m ∷ ms) cs k h e =
     bound _ _ _ e λ c e₁ e₂.

@@ -2,7 +2,7 @@
 use Rattle.std.proofs.Common.{◌≡◌, ℕ, zero, suc, ◌+◌, ◌*◌, ◌/◌, ◌%◌, ◌<◌, ◌≤◌, Bool, true, false, cond, ◌&&◌, ◌||◌, eqb, ltb, leb, ◌⊎◌, List, [], ◌∷◌, ◌++◌, map, length, get_or, drop, Some, None, Ok, Option, sym, refl, ap, ◌∙◌, ap₂, inl, inr, arith, length-drop, w16, to_z}
 use lib.ListN.{length-map}
 use borrow.Author.Gap.{read_sfits}
-use Rattle.std.specs.List.{flat_map, AllByRecursion as All}
+use Rattle.std.specs.List.{flat_map, AllByRecursion}
 use Rattle.std.proofs.ByRecursion.{All-drop}
 use Rattle.std.proofs.lemmas.Int.{of_z-to_z}
 use Rattle.std.proofs.lemmas.Bool.{ltb-true, leb-true, eqb-true, and_parts, or_cases, cond_both, false≢true}
@@ -28,7 +28,7 @@ tested_is t p c x e = needed _ _ _ _ e λ h e. (h, cc)
 module _ {X : Type 0} (tag : ℕ) (one : ℕ → List ℕ → Read X) (bytes : X → List ℕ) (Q P : X → Type 0)
     (k : (p : ℕ) (c : List ℕ) (x : X) → one p c ≡ Ok x → (Bytes c → (bytes x ≡ c) × Q x) × P x) where
   pub fields_is : (m p : ℕ) (r : List ℕ) (xs : List X) → fields m tag one p r ≡ Ok xs →
-      (Bytes r → (flat_map (λ x. field tag (bytes x)) xs ≡ r) × All Q xs) × (length xs ≤ m) × All P xs
+      (Bytes r → (flat_map (λ x. field tag (bytes x)) xs ≡ r) × AllByRecursion Q xs) × (length xs ≤ m) × AllByRecursion P xs
   unfolding fields
   fields_is m p [] xs e = let z : [] ≡ xs = cc in rw (← z) (λ h. (refl, tt), omega arith, tt)
   fields_is zero p (b ∷ r) xs e = bound _ _ _ e λ x e₁ e₂. absurd (err_ok e₂)
@@ -81,8 +81,8 @@ module _ (n : ℕ) where
       (λ q h. elim (or_cases _ _ h) [ inl u ↦ inl (ltb-true _ _ u) | inr v ↦ inr (eqb-true _ _ v) ]) (drop 2 c) a.3 in
       rw (← t.1) (λ b. (refl, tt), (ap (field 98) m, (leb-true _ _ a.1, rw (length-drop 2 c) (omega arith), q)))
 
-read_rows_is : (n : ℕ) (known : List Row) (xs : List Field) (rs : List Row) → All (Rowed n) xs → read_rows known xs ≡ Ok rs →
-    (flat_map row_bytes rs ≡ flat_map (λ x. field 98 x.contents) xs) × (length rs ≡ length xs) × All (ValidRow n) rs × Apart known rs
+read_rows_is : (n : ℕ) (known : List Row) (xs : List Field) (rs : List Row) → AllByRecursion (Rowed n) xs → read_rows known xs ≡ Ok rs →
+    (flat_map row_bytes rs ≡ flat_map (λ x. field 98 x.contents) xs) × (length rs ≡ length xs) × AllByRecursion (ValidRow n) rs × Apart known rs
 read_rows_is n known [] rs h e = let z : [] ≡ rs = cc in rw (← z) (refl, refl, tt, tt)
 read_rows_is n known (x ∷ xs) rs h e =
     needed _ _ _ _ e λ t e.
@@ -138,7 +138,7 @@ both_is None u e h = absurd (none_some h)
 both_is (Some t) None e h = absurd (none_some h)
 both_is (Some t) (Some ts) e h = (t, ts, refl, refl, cc)
 
-tokens_is : (n a : ℕ) (c : List ℕ) (e : Expr) → tokens n a c ≡ Some e → (Bytes c → expr_bytes e ≡ c) × (length c ≡ 3 * length e) × All (ValidToken n a) e
+tokens_is : (n a : ℕ) (c : List ℕ) (e : Expr) → tokens n a c ≡ Some e → (Bytes c → expr_bytes e ≡ c) × (length c ≡ 3 * length e) × AllByRecursion (ValidToken n a) e
 tokens_is n a [] e h = let z : [] ≡ e = cc in rw (← z) (λ b. refl, refl, tt)
 tokens_is n a (k ∷ []) e h = absurd (none_some h)
 tokens_is n a (k ∷ x ∷ []) e h = absurd (none_some h)
@@ -186,8 +186,8 @@ module _ (n : ℕ) where
       let a = all_three (leb 1 (length c)) (ltb (get_or c 0 0) n) (triples 1 32 (drop 1 c)) t.0 in
       rw (← t.1) (λ b. (refl, b), record { parts = at_one c (leb-true _ _ a.0); known = ltb-true _ _ a.1; sized = a.2 })
 
-  read_updates_is : (a : ℕ) (xs : List Field) (us : List Update) → All Updated xs → read_updates n a xs ≡ Ok us →
-      (All ByteField xs → flat_map update_bytes us ≡ flat_map (λ x. field 69 x.contents) xs) × (length us ≡ length xs) × All (ValidUpdate n a) us
+  read_updates_is : (a : ℕ) (xs : List Field) (us : List Update) → AllByRecursion Updated xs → read_updates n a xs ≡ Ok us →
+      (AllByRecursion ByteField xs → flat_map update_bytes us ≡ flat_map (λ x. field 69 x.contents) xs) × (length us ≡ length xs) × AllByRecursion (ValidUpdate n a) us
   read_updates_is a [] us h e = let z : [] ≡ us = cc in rw (← z) (λ b. refl, refl, tt)
   read_updates_is a (x ∷ xs) us h e =
       bound _ _ _ e λ v e₁ e.
@@ -209,11 +209,11 @@ module _ (n : ℕ) where
     pub call : r.call ≤ 63
     pub sized : triples 1 32 r.guard.contents ≡ true
     pub few : length r.updates ≤ 8
-    pub updates : All Updated r.updates
+    pub updates : AllByRecursion Updated r.updates
 
   -- a rule whose fields hold bytes
   abbrev ByteRaw : Raw → Type 0
-  ByteRaw r = ByteField r.guard × All ByteField r.updates
+  ByteRaw r = ByteField r.guard × AllByRecursion ByteField r.updates
 
   rule_field_is : (p : ℕ) (c : List ℕ) (r : Raw) → rule_field n p c ≡ Ok r → (Bytes c → (raw_bytes r ≡ c) × ByteRaw r) × Ruled r
   rule_field_is p c r e =
@@ -248,8 +248,8 @@ module _ (n : ℕ) where
         record { call = h.call; guard = c.1; few = rw u.1 h.few; updates = u.2 },
       )
 
-  read_rule_list_is : (xs : List Raw) (rs : List Rule) → All Ruled xs → read_rule_list n xs ≡ Ok rs →
-      (All ByteRaw xs → flat_map rule_bytes rs ≡ flat_map (λ x. field 67 (raw_bytes x)) xs) × (length rs ≡ length xs) × All (ValidRule n) rs
+  read_rule_list_is : (xs : List Raw) (rs : List Rule) → AllByRecursion Ruled xs → read_rule_list n xs ≡ Ok rs →
+      (AllByRecursion ByteRaw xs → flat_map rule_bytes rs ≡ flat_map (λ x. field 67 (raw_bytes x)) xs) × (length rs ≡ length xs) × AllByRecursion (ValidRule n) rs
   read_rule_list_is [] rs h e = let z : [] ≡ rs = cc in rw (← z) (λ b. refl, refl, tt)
   read_rule_list_is (x ∷ xs) rs h e =
       bound _ _ _ e λ y e₁ e.
@@ -261,7 +261,7 @@ module _ (n : ℕ) where
 
 -- rules whose fields and expressions were read
 pub rules_written : (n p : ℕ) (r : List ℕ) (xs : List Raw) (rs : List Rule) → fields 64 67 (rule_field n) p r ≡ Ok xs → read_rule_list n xs ≡ Ok rs →
-    (Bytes r → flat_map rule_bytes rs ≡ r) × (length rs ≤ 64) × All (ValidRule n) rs
+    (Bytes r → flat_map rule_bytes rs ≡ r) × (length rs ≤ 64) × AllByRecursion (ValidRule n) rs
 rules_written n p r xs rs ex er =
     let fs = fields_is 67 (rule_field n) (raw_bytes n) (ByteRaw n) (Ruled n) (rule_field_is n) 64 p r xs ex in
     let rr = read_rule_list_is n xs rs fs.2 er in

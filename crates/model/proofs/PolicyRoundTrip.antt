@@ -1,7 +1,7 @@
 -- What is written of a policy within the limits is read back.
 use Rattle.std.proofs.Common.{◌≡◌, ℕ, zero, suc, ◌+◌, ◌*◌, ◌/◌, ◌%◌, ◌<◌, ◌≤◌, true, ◌||◌, eqb, ltb, ◌⊎◌, List, [], ◌∷◌, ◌++◌, map, length, Some, Ok, refl, ap, ◌∙◌, ap₂, inl, inr, mul-suc, arith, length-append, w16, to_z, of_z}
 use lib.ListN.{length-map}
-use Rattle.std.specs.List.{flat_map, AllByRecursion as All}
+use Rattle.std.specs.List.{flat_map, AllByRecursion}
 use Rattle.std.proofs.ByRecursion.{All-weaker}
 use Rattle.std.proofs.lemmas.Int.{to_z-of_z}
 use Rattle.std.proofs.lemmas.Bool.{lt-ltb, le-leb, eq-eqb, and_from, or_left, or_right}
@@ -28,7 +28,7 @@ module _ {X Y : Type 0} (tag : ℕ) (one : ℕ → List ℕ → Read X) (bytes :
   results p (y ∷ ys) = result p y ∷ results (p + (3 + length (bytes y))) ys
 
   pub fields_write : (m p : ℕ) (ys : List Y) → length ys ≤ m →
-      All (λ y. (length (bytes y) < 65536) × ((q : ℕ) → one q (bytes y) ≡ Ok (result q y))) ys →
+      AllByRecursion (λ y. (length (bytes y) < 65536) × ((q : ℕ) → one q (bytes y) ≡ Ok (result q y))) ys →
       fields m tag one p (flat_map (λ y. field tag (bytes y)) ys) ≡ Ok (results p ys)
   unfolding fields field ◌>>=◌
   fields_write m p [] l h = refl
@@ -70,7 +70,7 @@ read_rows_write n known p (r ∷ rs) h = rw (moment_back r.moment, h.0, read_row
 pub table_round : (t : Table) → ValidTable t → length (write_table t) ≤ 65535 → read_table (write_table t) ≡ Ok t
 unfolding ◌>>=◌
 table_round t g short =
-    let rows : All (λ r. (length (row_contents r) < 65536) × ((q : ℕ) → row_field t.states q (row_contents r) ≡ Ok (kept_row q r)))
+    let rows : AllByRecursion (λ r. (length (row_contents r) < 65536) × ((q : ℕ) → row_field t.states q (row_contents r) ≡ Ok (kept_row q r)))
     t.rows = All-weaker (ValidRow t.states) _ (λ r h. let s = g.states in (omega arith, λ q. row_field_write t.states q r h))
     t.rows g.rows in
     rw (
@@ -83,7 +83,7 @@ table_round t g short =
     )
 
 -- rules
-length_joined : {X : Type 0} (f : X → List ℕ) (k : ℕ) (xs : List X) → All (λ x. length (f x) ≤ k) xs → length (flat_map f xs) ≤ k * length xs
+length_joined : {X : Type 0} (f : X → List ℕ) (k : ℕ) (xs : List X) → AllByRecursion (λ x. length (f x) ≤ k) xs → length (flat_map f xs) ≤ k * length xs
 length_joined f k [] h = omega arith
 length_joined f k (x ∷ xs) h = let r = length_joined f k xs h.1 in rw (length-append (f x) (flat_map f xs)) (omega (arith, mul-suc k (length xs)))
 
@@ -94,7 +94,7 @@ length_expr (cell i ∷ e) = let h = length_expr e in omega arith
 length_expr (argument i ∷ e) = let h = length_expr e in omega arith
 length_expr (operator o ∷ e) = let h = length_expr e in omega arith
 
-pub tokens_write : (n a : ℕ) (e : Expr) → All (ValidToken n a) e → tokens n a (expr_bytes e) ≡ Some e
+pub tokens_write : (n a : ℕ) (e : Expr) → AllByRecursion (ValidToken n a) e → tokens n a (expr_bytes e) ≡ Some e
 tokens_write n a [] h = refl
 tokens_write n a (constant z ∷ e) h = ap₂ (λ y o. both (Some (constant y)) o) (ap (to_z w16) (word_halves (of_z w16 z)) ∙ to_z-of_z w16 z h.0)
     (tokens_write n a e h.1)
@@ -126,7 +126,7 @@ module _ (n a : ℕ) where
   pub short_update : (u : Update) → ValidUpdate n a u → length (update_contents u) ≤ 97
   short_update u h = let l = length_expr u.value in omega arith
 
-  read_updates_write : (p : ℕ) (us : List Update) → All (ValidUpdate n a) us →
+  read_updates_write : (p : ℕ) (us : List Update) → AllByRecursion (ValidUpdate n a) us →
       read_updates n a (results 69 (update_field n) update_contents kept_update p us) ≡ Ok us
   unfolding ◌>>=◌
   read_updates_write p [] h = refl
@@ -151,7 +151,7 @@ module _ (n : ℕ) where
   rule_field_write p r h =
       let a = arguments r.moment in
       let l = length_expr r.guard in
-      let us : All (λ u. (length (update_contents u) < 65536) × ((q : ℕ) → update_field n q (update_contents u) ≡ Ok (kept_update q u))) r.updates =
+      let us : AllByRecursion (λ u. (length (update_contents u) < 65536) × ((q : ℕ) → update_field n q (update_contents u) ≡ Ok (kept_update q u))) r.updates =
       All-weaker (ValidUpdate n a) _ (λ u k. let s = short_update n a u k in (omega arith, λ q. update_field_write n a q u k)) r.updates h.updates in
       let g = h.guard.size in
       rw (
@@ -183,7 +183,7 @@ module _ (n : ℕ) where
         (p + 5 + (3 + length (expr_bytes r.guard))) r.updates h.updates,
   )
 
-  read_rule_list_write : (p : ℕ) (rs : List Rule) → All (ValidRule n) rs →
+  read_rule_list_write : (p : ℕ) (rs : List Rule) → AllByRecursion (ValidRule n) rs →
       read_rule_list n (results 67 (rule_field n) rule_contents (kept_rule n) p rs) ≡ Ok rs
   unfolding ◌>>=◌
   read_rule_list_write p [] h = refl
@@ -197,7 +197,7 @@ rules_round p g short =
     let l = length_flat (map quad_of p.starts) in
     let e = length-map p.starts quad_of in
     let q = 5 + (3 + length c) in
-    let rules : All (λ r. (length (rule_contents r) < 65536) × ((q : ℕ) → rule_field n q (rule_contents r) ≡ Ok (kept_rule n q r)))
+    let rules : AllByRecursion (λ r. (length (rule_contents r) < 65536) × ((q : ℕ) → rule_field n q (rule_contents r) ≡ Ok (kept_rule n q r)))
     p.rules = All-weaker (ValidRule n) _ (λ r h. (short_rule n r h, λ q. rule_field_write n q r h)) p.rules g.rules in
     rw (
       le-leb _ _ short,

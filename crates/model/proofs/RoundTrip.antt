@@ -1,7 +1,7 @@
 -- What is written of an applet within the limits is read back.
 use Rattle.std.proofs.Common.{◌≡◌, ℕ, ◌+◌, ◌<◌, ◌≤◌, Bool, true, ltb, List, [], ◌∷◌, ◌++◌, map, length, ℤ, Ok, refl, ap₂, arith, length-append, w32, SFits}
 use lib.ListN.{length-map}
-use Rattle.std.specs.List.{AllByRecursion as All}
+use Rattle.std.specs.List.{AllByRecursion}
 use Rattle.std.proofs.lemmas.List.{take_at, drop_at}
 use Rattle.std.proofs.lemmas.Bool.{lt-ltb, le-leb, eq-eqb, and_from}
 use Rattle.model.specs.declared.Instr.{Instr}
@@ -27,7 +27,7 @@ expect_field b t p c r h = rw (
 pub within_from : (a b n : ℕ) → Within a b n → within a b n ≡ true
 within_from a b n h = and_from _ _ (le-leb a n h.0) (le-leb n b h.1)
 
-pub every_from : {X : Type 0} (f : X → Bool) (P : X → Type 0) → ((x : X) → P x → f x ≡ true) → (xs : List X) → All P xs → every f xs ≡ true
+pub every_from : {X : Type 0} (f : X → Bool) (P : X → Type 0) → ((x : X) → P x → f x ≡ true) → (xs : List X) → AllByRecursion P xs → every f xs ≡ true
 every_from f P k [] h = refl
 every_from f P k (x ∷ xs) h = and_from _ _ (k x h.0) (every_from f P k xs h.1)
 
@@ -44,7 +44,7 @@ abbrev parts : ℕ → List (List Instr) → List Field
 parts p [] = []
 parts p (c ∷ cs) = record { place = p; contents = write_code c } ∷ parts (p + (3 + length (write_code c))) cs
 
-code_fields_write : (p : ℕ) (cs : List (List Instr)) → All (λ c. Within 1 4096 (length c)) cs → code_fields (length cs) p (write_codes cs) ≡ Ok (parts p cs)
+code_fields_write : (p : ℕ) (cs : List (List Instr)) → AllByRecursion (λ c. Within 1 4096 (length c)) cs → code_fields (length cs) p (write_codes cs) ≡ Ok (parts p cs)
 unfolding ◌>>=◌ over
 code_fields_write p [] h = refl
 code_fields_write p (c ∷ cs) h =
@@ -56,7 +56,7 @@ code_fields_write p (c ∷ cs) h =
       code_fields_write (p + (3 + length (write_code c))) cs h.1,
     )
 
-read_codes_write : (n p : ℕ) (cs : List (List Instr)) → All (λ c. Sound n (length c) 0 c) cs → read_codes n (parts p cs) ≡ Ok cs
+read_codes_write : (n p : ℕ) (cs : List (List Instr)) → AllByRecursion (λ c. Sound n (length c) 0 c) cs → read_codes n (parts p cs) ≡ Ok cs
 unfolding ◌>>=◌
 read_codes_write n p [] h = refl
 read_codes_write n p (c ∷ cs) h = rw (
@@ -67,7 +67,7 @@ read_codes_write n p (c ∷ cs) h = rw (
       (p + (3 + length (write_code c))) cs h.1,
 )
 
-pub starts_back : (zs : List ℤ) → All (SFits w32) zs → map signed_of (quads (flat (map quad_of zs))) ≡ zs
+pub starts_back : (zs : List ℤ) → AllByRecursion (SFits w32) zs → map signed_of (quads (flat (map quad_of zs))) ≡ zs
 starts_back [] h = refl
 starts_back (z ∷ zs) h = ap₂ {C = List ℤ} (λ y ys. y ∷ ys) (signed_quad z h.0) (starts_back zs h.1)
 

@@ -1,7 +1,7 @@
 -- A step gives cells of signed 32 bits.
 use Rattle.std.proofs.Common.{◌≡◌, ℕ, zero, suc, ◌+◌, Bool, true, false, not, ◌&&◌, ◌||◌, List, [], ◌∷◌, ◌++◌, length, get_or, set, ℤ, pos, negsuc, ◌+ℤ◌, ◌-ℤ◌, Some, refl, ap, ◌∙◌, subst, arith, take_at, w16, w32, SFits}
 use lib.Signed.{lt_z}
-use Rattle.std.specs.List.{AllByRecursion as All}
+use Rattle.std.specs.List.{AllByRecursion}
 use Rattle.std.proofs.ByRecursion.{All-append, All-take}
 use Rattle.std.proofs.lemmas.Int.{SFits-int_wrap}
 use Rattle.model.specs.declared.Moment.{Moment}
@@ -14,7 +14,7 @@ use Rattle.model.specs.Machine.{zeros}
 
 -- signed 32 bits each
 abbrev Signed : List ℤ → Type 0
-Signed = All (SFits w32)
+Signed = AllByRecursion (SFits w32)
 
 getD_all : (xs : List ℤ) (i : ℕ) → Signed xs → SFits w32 (get_or xs i (pos 0))
 getD_all [] i h = record { sfits = omega arith }
@@ -68,7 +68,7 @@ module _ (t : Moment) (low high : ℕ) (a : List ℤ) (sa : Signed a) where
   turn_signed (Store x y) s m f hs hm = (set_all s y _ hs (getD_all m x hm), hm)
   turn_signed (Op x o) s m f hs hm = (hs, set_all m x _ hm (operate_fits o _ _))
 
-  exec_signed : (k : ℕ) (b : List Test) (s m : List ℤ) → All (Formed t low high) b → Signed s → Signed m → SignedRan (exec a k b s m)
+  exec_signed : (k : ℕ) (b : List Test) (s m : List ℤ) → AllByRecursion (Formed t low high) b → Signed s → Signed m → SignedRan (exec a k b s m)
   exec_signed zero [] s m f hs hm = (hs, hm)
   exec_signed (suc k) [] s m f hs hm = tt
   exec_signed (suc k) (i ∷ b) s m f hs hm = exec_signed k b s m f.1 hs hm

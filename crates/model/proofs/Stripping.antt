@@ -1,7 +1,7 @@
 -- Stripping undoes weaving.
 use Rattle.std.proofs.Common.{◌≡◌, ℕ, zero, suc, ◌+◌, ◌-◌, ◌<◌, Bool, false, List, [], ◌∷◌, ◌++◌, map, length, get_or, replicate, Some, None, Ok, Option, sym, refl, ap, ◌∙◌, subst, ap₂, append_assoc, suc-add, zero-add, arith, length-append}
 use lib.ListN.{length-map}
-use Rattle.std.specs.List.{AllByRecursion as All}
+use Rattle.std.specs.List.{AllByRecursion}
 use Rattle.std.proofs.lemmas.List.{get_or_at}
 use Rattle.model.specs.declared.Own.{Own}
 use Rattle.model.specs.declared.Test.{Test}
@@ -76,7 +76,7 @@ module _ (B : Blocks) where
 -- ---- whole applets, and files
 
 module _ (A : Automaton) (B : Blocks) where
-  strip_applet_woven : (p : Plain) → All Targeted p.code → strip_applet B (woven_applet A B p) ≡ p
+  strip_applet_woven : (p : Plain) → AllByRecursion Targeted p.code → strip_applet B (woven_applet A B p) ≡ p
   strip_applet_woven p h =
       let e = map_back (strip B) (woven A.watched (λ k t. B k t 0)) Targeted (strip_woven B A.watched) p.code h in
       λ i. record { entries = p.entries; code = e i }

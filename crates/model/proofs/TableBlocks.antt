@@ -1,7 +1,7 @@
 -- The blocks of a table do what its step says.
 use Rattle.std.proofs.Common.{◌≡◌, ℕ, suc, ◌+◌, ◌-◌, ◌<◌, ◌≤◌, Bool, true, false, cond, not, ◌&&◌, eqb, ◌⊎◌, List, [], ◌∷◌, ◌++◌, length, get_or, set, ℤ, pos, negsuc, Some, None, Option, sym, refl, ap, ◌∙◌, inl, inr, ⊎_elim, add-zero, arith, length-set}
 use mathlib.Core.Path.{subst⁻¹}
-use Rattle.std.specs.List.{AllByRecursion as All}
+use Rattle.std.specs.List.{AllByRecursion}
 use Rattle.std.proofs.lemmas.Bool.{or_parts, eq-eqb, ne_eqb, cond_both, and_right, cases_eq}
 use Rattle.model.specs.declared.Moment.{Moment}
 use Rattle.model.specs.declared.Test.{Test}
@@ -128,13 +128,13 @@ placed_row : (f g : ℕ) (o : Option (List ℕ)) → length (row_block f o) ≡ 
 placed_row f g None = refl
 placed_row f g (Some ns) = states_placed f g 0 ns
 
-row_within : (n k : ℕ) (t : Moment) (rs : List Row) (ns : List ℕ) → All (ValidRow n) rs → row_of rs k t ≡ Some ns → (length ns ≡ n) × All (λ q. (q < n) ⊎ (q ≡ 255)) ns
+row_within : (n k : ℕ) (t : Moment) (rs : List Row) (ns : List ℕ) → AllByRecursion (ValidRow n) rs → row_of rs k t ≡ Some ns → (length ns ≡ n) × AllByRecursion (λ q. (q < n) ⊎ (q ≡ 255)) ns
 row_within n k t [] ns h e = absurd (none_some e)
 row_within n k t (r ∷ rs) ns h e =
-    cond_both (row_for k t r) (Some r.nexts) (row_of rs k t) (λ x. x ≡ Some ns → (length ns ≡ n) × All (λ q. (q < n) ⊎ (q ≡ 255)) ns)
+    cond_both (row_for k t r) (Some r.nexts) (row_of rs k t) (λ x. x ≡ Some ns → (length ns ≡ n) × AllByRecursion (λ q. (q < n) ⊎ (q ≡ 255)) ns)
     (λ y q. let z : r.nexts ≡ ns = cc in rw (← z) (h.0.1, h.0.2)) (λ y q. row_within n k t rs ns h.1 q) e
 
-tidy_row : (t : Moment) (f n : ℕ) (o : Option (List ℕ)) → n ≤ 16 → ((ns : List ℕ) → o ≡ Some ns → (length ns ≡ n) × All (λ q. (q < n) ⊎ (q ≡ 255)) ns) →
+tidy_row : (t : Moment) (f n : ℕ) (o : Option (List ℕ)) → n ≤ 16 → ((ns : List ℕ) → o ≡ Some ns → (length ns ≡ n) × AllByRecursion (λ q. (q < n) ⊎ (q ≡ 255)) ns) →
     Tidy t f (f + 1) (row_block f o)
 tidy_row t f n None l h = tt
 tidy_row t f n (Some ns) l h =

@@ -1,6 +1,6 @@
 -- The operands of blocks lie in their ranges, and skips do not leave them.
 use Rattle.std.proofs.Common.{◌≡◌, ℕ, ◌+◌, ◌-◌, ◌<◌, ◌≤◌, Bool, true, false, cond, eqb, ltb, leb, ◌⊎◌, List, [], ◌∷◌, ◌++◌, length, pos, inl, inr, arith, length-append, w16, SFits}
-use Rattle.std.specs.List.{AllByRecursion as All}
+use Rattle.std.specs.List.{AllByRecursion}
 use Rattle.std.proofs.lemmas.Bool.{leb-true, ltb-true, and_parts}
 use Rattle.model.specs.declared.Moment.{Moment}
 use Rattle.model.specs.declared.Test.{Test}
@@ -17,7 +17,7 @@ module _ (t : Moment) (low high : ℕ) where
   Tidy [] = Unit {0}
   Tidy (c ∷ cs) = (Formed t low high c × (reach c ≤ length cs)) × Tidy cs
 
-  pub tidy_formed : (b : List Test) → Tidy b → All (Formed t low high) b
+  pub tidy_formed : (b : List Test) → Tidy b → AllByRecursion (Formed t low high) b
   tidy_formed [] h = tt
   tidy_formed (c ∷ cs) h = (h.0.0, tidy_formed cs h.1)
 
@@ -30,7 +30,7 @@ module _ (t : Moment) (low high : ℕ) where
   tidy_append (x ∷ xs) ys h k = ((h.0.0, rw (length-append xs ys) (omega (arith, h.0.1))), tidy_append xs ys h.1 k)
 
 module _ (t : Moment) (f w : ℕ) where
-  tidy_emit : (d : ℕ) (e : Expr) → d ≤ 8 → All (ValidToken w (arguments t)) e → balanced d e ≡ true → Tidy t f (f + w) (emit f d e)
+  tidy_emit : (d : ℕ) (e : Expr) → d ≤ 8 → AllByRecursion (ValidToken w (arguments t)) e → balanced d e ≡ true → Tidy t f (f + w) (emit f d e)
   tidy_emit d [] u g b = tt
   tidy_emit d (constant z ∷ e) u g b =
       let p = and_parts (ltb d 8) (balanced (d + 1) e) b in
@@ -50,7 +50,7 @@ module _ (t : Moment) (f w : ℕ) where
       let q = leb-true 2 d p.0 in
       ((omega arith, omega arith), tidy_emit (d - 1) e (omega arith) g.1 p.1)
 
-  tidy_updates : (us : List Update) → All (ValidUpdate w (arguments t)) us → Tidy t f (f + w) (emit_updates f us)
+  tidy_updates : (us : List Update) → AllByRecursion (ValidUpdate w (arguments t)) us → Tidy t f (f + w) (emit_updates f us)
   tidy_updates [] g = tt
   tidy_updates (u ∷ us) g =
       let h = g.0.0 in
@@ -58,7 +58,7 @@ module _ (t : Moment) (f w : ℕ) where
       (tidy_emit 0 u.value (omega arith) g.0.1.tokens g.0.1.balanced)
       (((omega arith, omega arith, omega arith), omega arith), tidy_updates us g.1)
 
-  tidy_rules : (rs : List Rule) → All (λ r. ValidRule w r × (arguments r.moment ≡ arguments t)) rs → Tidy t f (f + w) (emit_rules f rs)
+  tidy_rules : (rs : List Rule) → AllByRecursion (λ r. ValidRule w r × (arguments r.moment ≡ arguments t)) rs → Tidy t f (f + w) (emit_rules f rs)
   tidy_rules [] g = ((tt, omega arith), tt)
   tidy_rules (r ∷ rs) g =
       let U = emit_updates f r.updates in
@@ -72,14 +72,14 @@ module _ (t : Moment) (f w : ℕ) where
             ((tt, omega arith), tidy_rules rs g.1),
       )
 
-  pub tidy_block : (rs : List Rule) → All (λ r. ValidRule w r × (arguments r.moment ≡ arguments t)) rs → Tidy t f (f + w) (block_of f rs)
+  pub tidy_block : (rs : List Rule) → AllByRecursion (λ r. ValidRule w r × (arguments r.moment ≡ arguments t)) rs → Tidy t f (f + w) (block_of f rs)
   tidy_block [] g = tt
   tidy_block (r ∷ rs) g = tidy_rules (r ∷ rs) g
 
   small : (n : ℕ) → n < 300 → SFits w16 (pos n)
   small n h = record { sfits = omega arith }
 
-  pub tidy_states : (q : ℕ) (ns : List ℕ) → w ≡ 1 → q + length ns ≤ 16 → All (λ n. (n < 16) ⊎ (n ≡ 255)) ns → Tidy t f (f + w) (states_block f q ns)
+  pub tidy_states : (q : ℕ) (ns : List ℕ) → w ≡ 1 → q + length ns ≤ 16 → AllByRecursion (λ n. (n < 16) ⊎ (n ≡ 255)) ns → Tidy t f (f + w) (states_block f q ns)
   tidy_states q [] e l h = ((tt, omega arith), tt)
   tidy_states q (n ∷ ns) e l h = go (tidy_states (q + 1) ns e (omega arith) h.1) (eqb n 255)
     where

@@ -1,6 +1,6 @@
 -- When weave writes: exactly of the files that can be woven.
 use Rattle.std.proofs.Common.{◌≡◌, ℕ, zero, suc, ◌+◌, ◌<◌, ◌≤◌, Bool, true, false, ◌&&◌, leb, List, [], ◌∷◌, map, length, Ok, sym, refl, ap, ◌∙◌, ap₂, ⊎_elim, arith}
-use Rattle.std.specs.List.{AllByRecursion as All}
+use Rattle.std.specs.List.{AllByRecursion}
 use Rattle.std.proofs.lemmas.List.{nil_from_length}
 use Rattle.std.proofs.lemmas.Bool.{leb-true, le-leb, eqb-true, and_parts, and_from, cases_eq}
 use Rattle.model.specs.declared.Own.{Own}
@@ -53,7 +53,7 @@ plain_is a p e =
     let z : record { entries = a.entries; code = cs } ≡ p = cc in
     let r = sym s in rw (← z) (λ i. record { entries = a.entries; starts = r i; methods = c i })
 
-sized_is : (at : ℕ → ℕ) (m : ℕ) (cs : List (List Instr)) (u : Unit {0}) → sized at m cs ≡ Ok u → All (λ c. length c ≤ 4096) cs
+sized_is : (at : ℕ → ℕ) (m : ℕ) (cs : List (List Instr)) (u : Unit {0}) → sized at m cs ≡ Ok u → AllByRecursion (λ c. length c ≤ 4096) cs
 sized_is at m [] u e = tt
 sized_is at m (c ∷ cs) u e = needed _ _ _ _ e λ t e. (leb-true _ _ t, sized_is at (m + 1) cs u e)
 
@@ -63,7 +63,7 @@ need_true false r u e = absurd (err_ok e)
 
 -- ---- and back
 
-sized_from : (at : ℕ → ℕ) (m : ℕ) (cs : List (List Instr)) → All (λ c. length c ≤ 4096) cs → sized at m cs ≡ Ok tt
+sized_from : (at : ℕ → ℕ) (m : ℕ) (cs : List (List Instr)) → AllByRecursion (λ c. length c ≤ 4096) cs → sized at m cs ≡ Ok tt
 unfolding ◌>>=◌
 sized_from at m [] h = refl
 sized_from at m (c ∷ cs) h = rw (le-leb (length c) 4096 h.0) (sized_from at (m + 1) cs h.1)

@@ -1,6 +1,6 @@
 -- What is written is read back, and what is read was written so: numbers and instructions.
 use Rattle.std.proofs.Common.{◌≡◌, ℕ, zero, suc, ◌*◌, ◌%◌, ◌<◌, true, eqb, List, [], ◌∷◌, length, take, drop, ℤ, Some, None, Option, sym, refl, ap, ◌∙◌, arith, take-append-drop, w16, w32, SFits, to_z}
-use Rattle.std.specs.List.{AllByRecursion as All}
+use Rattle.std.specs.List.{AllByRecursion}
 use Rattle.std.proofs.ByRecursion.{All-append}
 use Rattle.std.proofs.lemmas.Int.{to_z-of_z, of_z-to_z}
 use Rattle.std.proofs.lemmas.Bool.{lt-ltb, ltb-true, eq-eqb, eqb-true, and_parts, and_from, cond_both}
@@ -64,7 +64,7 @@ flat_quads (a ∷ (b ∷ (c ∷ (d ∷ r)))) h = ap {B = List ℕ} (λ t. a ∷ 
 pub signed_quad : (z : ℤ) → SFits w32 z → signed_of (quad_of z) ≡ z
 signed_quad z f = ap (to_z w32) (omega arith) ∙ to_z-of_z w32 z f
 
-pub split : {X : Type 0} (P : X → Type 0) (n : ℕ) (xs : List X) → All P (take n xs) → All P (drop n xs) → All P xs
+pub split : {X : Type 0} (P : X → Type 0) (n : ℕ) (xs : List X) → AllByRecursion P (take n xs) → AllByRecursion P (drop n xs) → AllByRecursion P xs
 split P n xs h k = rw (take-append-drop n xs) at (All-append P (take n xs) (drop n xs) h k)
 
 pub same_quad : (q r : Quad) → (q.a ≡ r.a) × (q.b ≡ r.b) × (q.c ≡ r.c) × (q.d ≡ r.d) → q ≡ r
@@ -75,7 +75,7 @@ abbrev pub Writes : Entry → Type 0
 Writes e = (n x y : ℕ) → x < limit n e.x → y < limit n e.y → ((word_of (e.make x y)).op ≡ e.op) × ((word_of (e.make x y)).x ≡ x) ×
     ((word_of (e.make x y)).y ≡ y)
 
-pub writes : All Writes table
+pub writes : AllByRecursion Writes table
 unfolding table
 writes =
     split Writes 1 table (λ n x y a b. (refl, refl, of_z-to_z w16 y b), tt)
@@ -84,7 +84,7 @@ writes =
     (split Writes 6 (drop 13 table) (omega arith) (λ n x y a b. (refl, refl, of_z-to_z w16 y b), split Writes 3 (drop 20 table) (omega arith) (λ n x y a b. (refl, refl, operator_there y b), tt)))))
 
 -- what a look-up finds is in the list, under that opcode
-pub found : (P : Entry → Type 0) (o : ℕ) (es : List Entry) (e : Entry) → All P es → find o es ≡ Some e → P e × (o ≡ e.op)
+pub found : (P : Entry → Type 0) (o : ℕ) (es : List Entry) (e : Entry) → AllByRecursion P es → find o es ≡ Some e → P e × (o ≡ e.op)
 found P o [] e h p = absurd (none_some p)
 found P o (c ∷ cs) e h p = cond_both (eqb o c.op) (Some c) (find o cs) (λ r. r ≡ Some e → P e × (o ≡ e.op))
     (λ t q. let z : c ≡ e = cc in rw (← z) (h.0, eqb-true o c.op t)) (λ t q. found P o cs e h.1 q) p

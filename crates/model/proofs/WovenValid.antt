@@ -2,7 +2,7 @@
 use Rattle.std.proofs.Common.{◌≡◌, ℕ, zero, suc, ◌+◌, ◌<◌, ◌≤◌, Bool, true, false, cond, ltb, List, [], ◌∷◌, ◌++◌, map, length, Some, None, sym, refl, ap, ◌∙◌, subst, ap₂, subst₂, add-zero, zero-add, arith, length-append, w16}
 use lib.ListN.{length-map}
 use mir.Facts.{Fits-of_z}
-use Rattle.std.specs.List.{AllByRecursion as All}
+use Rattle.std.specs.List.{AllByRecursion}
 use Rattle.std.proofs.ByRecursion.{All-map}
 use Rattle.std.proofs.lemmas.Int.{to_z-of_z}
 use Rattle.std.proofs.lemmas.Bool.{ltb-true, lt-ltb, and_parts, and_from}
@@ -60,7 +60,7 @@ module _ (n w : ℕ) (t : Moment) (narrow : w ≤ 32) where
   lands_test size j r (Store x y) l h = lt-ltb (j + 1) size (omega arith)
   lands_test size j r (Op x y) l h = lt-ltb (j + 1) size (omega arith)
 
-  block_sound : (size j : ℕ) (b : List Test) → size ≤ 4096 → j + length b < size → All (Formed t 0 w) b → Enclosed b → Sound n size j (map Instr.Test b)
+  block_sound : (size j : ℕ) (b : List Test) → size ≤ 4096 → j + length b < size → AllByRecursion (Formed t 0 w) b → Enclosed b → Sound n size j (map Instr.Test b)
   block_sound size j [] u l h e = tt
   block_sound size j (c ∷ cs) u l h e = (
     (ranged_test (length cs) c h.0 e.0 (omega arith), lands_test size j (length cs) c (omega arith) e.0),
@@ -218,11 +218,11 @@ module _ (watched : ℕ → Bool) (block : ℕ → Moment → List Test) where
 
 -- ---- whole applets
 
-pub all_unmap : {X Y : Type 0} (P : Y → Type 0) (g : X → Y) (xs : List X) → All P (map g xs) → All (λ x. P (g x)) xs
+pub all_unmap : {X Y : Type 0} (P : Y → Type 0) (g : X → Y) (xs : List X) → AllByRecursion P (map g xs) → AllByRecursion (λ x. P (g x)) xs
 all_unmap P g [] h = tt
 all_unmap P g (x ∷ xs) h = (h.0, all_unmap P g xs h.1)
 
-all_two : {X : Type 0} (P Q R : X → Type 0) → ((x : X) → P x → Q x → R x) → (xs : List X) → All P xs → All Q xs → All R xs
+all_two : {X : Type 0} (P Q R : X → Type 0) → ((x : X) → P x → Q x → R x) → (xs : List X) → AllByRecursion P xs → AllByRecursion Q xs → AllByRecursion R xs
 all_two P Q R k [] h g = tt
 all_two P Q R k (x ∷ xs) h g = (k x h.0 g.0, all_two P Q R k xs h.1 g.1)
 
@@ -248,7 +248,7 @@ module _ (A : Automaton) (B : Blocks) (S : Offers A B) (p : Plain) (good : Valid
         laid_sound A.watched blk n (length (weave c)) few tests_sound (start A.watched blk c) (length c)
         (λ t h. rw (woven_size c) (start_below A.watched blk c t h)) 0 0 c (omega arith) (omega (arith, woven_size c)) h
 
-  pub woven_valid : All (λ c. length c ≤ 4096) (woven_applet A B p).methods → Valid (woven_applet A B p)
+  pub woven_valid : AllByRecursion (λ c. length c ≤ 4096) (woven_applet A B p).methods → Valid (woven_applet A B p)
   woven_valid few =
       let n = length (map (λ c. map Instr.Own c) p.code) in
       let e : n ≡ length (map weave p.code) = length-map p.code (λ c. map Instr.Own c) ∙ sym (length-map p.code weave) in
@@ -258,7 +258,7 @@ module _ (A : Automaton) (B : Blocks) (S : Offers A B) (p : Plain) (good : Valid
       record {
         methods = subst (Within 1 32) e good.methods;
         threads = good.threads;
-        entered = subst (λ k. All (λ e. e < k) p.entries) e good.entered;
+        entered = subst (λ k. AllByRecursion (λ e. e < k) p.entries) e good.entered;
         cells = let a = S.shows.starts in let b = S.narrow in omega arith;
         signed = S.shows.signed;
         sizes = All-map (λ c. Within 1 4096 (length c)) weave p.code

@@ -1,6 +1,6 @@
 -- What a policy means, what its blocks do, and what it owes.
 use Rattle.std.specs.Prelude.{◌≡◌, ℕ, zero, suc, ◌+◌, ◌<◌, ◌≤◌, Bool, true, false, cond, not, ◌&&◌, ◌||◌, List, [], ◌∷◌, ◌++◌, length, ℤ, pos, negsuc, ◌+ℤ◌, ◌-ℤ◌, Some, None, Option, FitsSigned, ◌==◌, int_lt, slice_index_or, slice_set}
-use Rattle.std.specs.List.{AllByRecursion as All}
+use Rattle.std.specs.List.{AllByRecursion}
 use Rattle.std.specs.Int.{int_wrap, w16, w32}
 use Rattle.model.specs.declared.Moment.{Moment}
 use Rattle.model.specs.declared.Operator.{Operator}
@@ -130,7 +130,7 @@ Enclosed (i ∷ is) = (reach i ≤ length is) × Enclosed is
 pub record Showing (A : Automaton) (B : Blocks) : Type 0 where
   -- one start value for each cell, of signed 32 bits
   pub starts : length A.starts ≡ A.width
-  pub signed : All (FitsSigned w32) A.starts
+  pub signed : AllByRecursion (FitsSigned w32) A.starts
   -- a step gives as many cells as it took
   pub keeps : (e : Event) (c d : List ℤ) → length c ≡ A.width → A.step e c ≡ Some d → length d ≡ A.width
   -- on an unwatched call it passes unchanged
@@ -143,7 +143,7 @@ pub record Showing (A : Automaton) (B : Blocks) : Type 0 where
   -- an unwatched call's blocks are empty
   pub unwatched : (k : ℕ) (t : Moment) (f : ℕ) → A.watched k ≡ false → B k t f ≡ []
   -- operands in their ranges, cells in the width from the first cell, no a4 before
-  pub formed : (k : ℕ) (t : Moment) (f : ℕ) → All (Formed t f (f + A.width)) (B k t f)
+  pub formed : (k : ℕ) (t : Moment) (f : ℕ) → AllByRecursion (Formed t f (f + A.width)) (B k t f)
   -- skips stay inside or land at the end
   pub enclosed : (k : ℕ) (t : Moment) (f : ℕ) → Enclosed (B k t f)
   -- from the top, with any cells, any scratch and the event in a0 to a4, a block reaches its end with the stepped cells, or VIOL exactly if the step refuses
@@ -153,5 +153,5 @@ pub record Showing (A : Automaton) (B : Blocks) : Type 0 where
 
 -- from cells, four arguments and an answer of signed 32 bits, a step gives cells of signed 32 bits
 abbrev pub StaysSigned : Automaton → Type 0
-StaysSigned A = (e : Event) (c d : List ℤ) → length c ≡ A.width → length e.args ≡ 4 → All (FitsSigned w32) c → All (FitsSigned w32) e.args →
-    FitsSigned w32 e.answer → A.step e c ≡ Some d → All (FitsSigned w32) d
+StaysSigned A = (e : Event) (c d : List ℤ) → length c ≡ A.width → length e.args ≡ 4 → AllByRecursion (FitsSigned w32) c → AllByRecursion (FitsSigned w32) e.args →
+    FitsSigned w32 e.answer → A.step e c ≡ Some d → AllByRecursion (FitsSigned w32) d

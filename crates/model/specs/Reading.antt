@@ -1,7 +1,7 @@
 -- The file of an applet: its bytes, and the reading of them.
 use Rattle.std.specs.Prelude.{◌≡◌, ℕ, zero, suc, ◌+◌, ◌*◌, ◌<◌, ◌≤◌, true, cond, ◌&&◌, List, [], ◌∷◌, ◌++◌, map, length, take, Some, None, Ok, Option, FitsSigned, ◌==◌, nat_le, nat_lt, slice_index}
 use Rattle.std.specs.Int.{w32}
-use Rattle.std.specs.List.{AllByRecursion as All}
+use Rattle.std.specs.List.{AllByRecursion}
 use Rattle.model.specs.declared.Instr.{Instr}
 use Rattle.model.specs.Machine.{Applet}
 use Rattle.model.specs.Words.{Quad, quads, flat, signed_of, quad_of, encode, decode, lands, Ranged}
@@ -95,8 +95,8 @@ Sound n size i (c ∷ cs) = (Ranged n c × (lands size i c ≡ true)) × Sound n
 pub record Valid (a : Applet) : Type 0 where
   pub methods : Within 1 32 (length a.methods)
   pub threads : Within 1 8 (length a.entries)
-  pub entered : All (λ e. e < length a.methods) a.entries
+  pub entered : AllByRecursion (λ e. e < length a.methods) a.entries
   pub cells : length a.starts ≤ 32
-  pub signed : All (FitsSigned w32) a.starts
-  pub sizes : All (λ c. Within 1 4096 (length c)) a.methods
-  pub sound : All (λ c. Sound (length a.methods) (length c) 0 c) a.methods
+  pub signed : AllByRecursion (FitsSigned w32) a.starts
+  pub sizes : AllByRecursion (λ c. Within 1 4096 (length c)) a.methods
+  pub sound : AllByRecursion (λ c. Sound (length a.methods) (length c) 0 c) a.methods

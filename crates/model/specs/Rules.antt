@@ -2,7 +2,7 @@
 use Rattle.std.specs.Prelude.{◌≡◌, ℕ, zero, suc, ◌+◌, ◌-◌, ◌*◌, ◌/◌, ◌%◌, ◌<◌, ◌≤◌, Bool, true, false, cond, ◌&&◌, ◌||◌, leb, List, [], ◌∷◌, ◌++◌, map, length, drop, ℤ, pos, is_ok, Some, None, Ok, Err, filter, Option, FitsSigned, ◌==◌, nat_le, nat_lt, slice_index, slice_index_or, slice_set}
 use Rattle.std.specs.Int.{w16, w32}
 use Rattle.std.proofs.Common.{to_z, of_z}
-use Rattle.std.specs.List.{flat_map, AllByRecursion as All}
+use Rattle.std.specs.List.{flat_map, AllByRecursion}
 use Rattle.model.specs.declared.Moment.{Moment}
 use Rattle.model.specs.declared.Operator.{Operator}
 use Rattle.model.specs.Moments.{moment_number, moment_of, same_moment}
@@ -260,7 +260,7 @@ ValidToken n a (operator o) = Unit {0}
 -- 1 to 32 tokens, balanced
 pub record ValidExpr (n a : ℕ) (e : Expr) : Type 0 where
   pub size : Within 1 32 (length e)
-  pub tokens : All (ValidToken n a) e
+  pub tokens : AllByRecursion (ValidToken n a) e
   pub balanced : balanced 0 e ≡ true
 
 -- an update of a policy of n cells
@@ -272,14 +272,14 @@ pub record ValidRule (n : ℕ) (r : Rule) : Type 0 where
   pub call : r.call ≤ 63
   pub guard : ValidExpr n (arguments r.moment) r.guard
   pub few : length r.updates ≤ 8
-  pub updates : All (ValidUpdate n (arguments r.moment)) r.updates
+  pub updates : AllByRecursion (ValidUpdate n (arguments r.moment)) r.updates
 
 -- a rule policy within all limits
 pub record ValidRules (p : Rules) : Type 0 where
   pub cells : length p.starts ≤ 16
-  pub signed : All (FitsSigned w32) p.starts
+  pub signed : AllByRecursion (FitsSigned w32) p.starts
   pub few : length p.rules ≤ 64
-  pub rules : All (ValidRule (length p.starts)) p.rules
+  pub rules : AllByRecursion (ValidRule (length p.starts)) p.rules
   pub blocks : short_blocks p ≡ true
 
 -- a rule that refuses call k before it is handed out

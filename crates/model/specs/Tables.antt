@@ -1,6 +1,6 @@
 -- Table policies: their meaning, their blocks, their files.
 use Rattle.std.specs.Prelude.{◌≡◌, ℕ, zero, suc, ◌+◌, ◌<◌, ◌≤◌, Bool, true, false, cond, not, ◌&&◌, ◌||◌, ◌⊎◌, List, [], ◌∷◌, ◌++◌, length, drop, ℤ, pos, negsuc, is_ok, Some, None, Ok, Err, Option, ◌==◌, nat_le, nat_lt, slice_index, slice_index_or, slice_set}
-use Rattle.std.specs.List.{flat_map, AllByRecursion as All}
+use Rattle.std.specs.List.{flat_map, AllByRecursion}
 use Rattle.model.specs.declared.Moment.{Moment}
 use Rattle.model.specs.declared.Operator.TheVariants.{Equal}
 use Rattle.model.specs.Moments.{moment_number, moment_of, same_moment}
@@ -113,7 +113,7 @@ write_table p = field 97 (1 ∷ p.states ∷ p.start ∷ []) ++ flat_map row_byt
 
 -- a row of a table of n states
 abbrev pub ValidRow : ℕ → Row → Type 0
-ValidRow n r = (r.call ≤ 63) × (length r.nexts ≡ n) × All (λ q. (q < n) ⊎ (q ≡ 255)) r.nexts
+ValidRow n r = (r.call ≤ 63) × (length r.nexts ≡ n) × AllByRecursion (λ q. (q < n) ⊎ (q ≡ 255)) r.nexts
 
 -- no row for a call and moment of a row before
 abbrev pub Apart : List Row → List Row → Type 0
@@ -125,7 +125,7 @@ pub record ValidTable (p : Table) : Type 0 where
   pub states : Within 1 16 p.states
   pub start : p.start < p.states
   pub few : length p.rows ≤ 64
-  pub rows : All (ValidRow p.states) p.rows
+  pub rows : AllByRecursion (ValidRow p.states) p.rows
   pub apart : Apart [] p.rows
 
 -- it refuses call k in its only state

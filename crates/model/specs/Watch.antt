@@ -1,6 +1,6 @@
 -- The watch: one policy kept beside a run.
 use Rattle.std.specs.Prelude.{◌≡◌, ◌≤◌, Bool, true, false, cond, List, [], ◌∷◌, ℤ, Ok, Err, Option, ◌≢◌}
-use Rattle.std.specs.List.{AllByRecursion as All}
+use Rattle.std.specs.List.{AllByRecursion}
 use Rattle.model.specs.declared.Moment.{Moment}
 use Rattle.model.specs.declared.Refusal.{Refusal}
 use Rattle.model.specs.declared.Verdict.{Verdict}
@@ -83,7 +83,7 @@ AllWell (e ∷ es) (Err r ∷ vs) = ⊥
 -- what the watch of a policy promises
 pub record Watches (A : Automaton) : Type 0 where
   -- if the policy accepts the events of calls up to 63, then all is well by the answers of a watch from begin on
-  pub well : (w v : Watch) → begin A w ≡ Ok v → (es : List Event) → All (λ e. e.call ≤ 63) es → Accepts A A.starts es → AllWell es (answers A v es)
+  pub well : (w v : Watch) → begin A w ≡ Ok v → (es : List Event) → AllByRecursion (λ e. e.call ≤ 63) es → Accepts A A.starts es → AllWell es (answers A v es)
   -- and the other way round
   pub accepts : (w v : Watch) → begin A w ≡ Ok v → (es : List Event) → AllWell es (answers A v es) → Accepts A A.starts es
   -- where the call itself is refused, the watch stays as it is

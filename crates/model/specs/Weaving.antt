@@ -1,6 +1,6 @@
 -- When weave writes, and what.
 use Rattle.std.specs.Prelude.{◌≡◌, ℕ, ◌<◌, ◌≤◌, List, length, Ok}
-use Rattle.std.specs.List.{AllByRecursion as All}
+use Rattle.std.specs.List.{AllByRecursion}
 use Rattle.model.specs.declared.Moment.{Moment}
 use Rattle.model.specs.Policy.{Automaton, Blocks}
 use Rattle.model.specs.Weave.{Plain, plain_applet, woven_applet}
@@ -24,7 +24,7 @@ pub record Weavable (A : Automaton) (B : Blocks) (f : List ℕ) (area : ℕ) (p 
   -- the file reads as an applet that has no cells and no opcode from 20 up
   pub reads : read_applet f ≡ Ok (plain_applet p)
   -- each woven method has at most 4,096 instructions
-  pub methods : All (λ c. length c ≤ 4096) (woven_applet A B p).methods
+  pub methods : AllByRecursion (λ c. length c ≤ 4096) (woven_applet A B p).methods
   -- the woven file has at most 65,535 bytes, and no more than the area
   pub short : length (woven_bytes A B p) ≤ 65535
   pub room : length (woven_bytes A B p) ≤ area

@@ -1,6 +1,6 @@
 -- The instruction of four bytes, by the row of its opcode.
 use Rattle.std.proofs.Common.{◌≡◌, ℕ, ◌%◌, ◌<◌, Bool, true, false, cond, Some, None, Ok, Err, Option, sym, refl, ap, ◌∙◌, subst, ap₂, arith}
-use Rattle.std.specs.List.{AllByRecursion as All}
+use Rattle.std.specs.List.{AllByRecursion}
 use Rattle.std.specs.Option.{option_map}
 use Rattle.std.proofs.lemmas.Bool.{ltb-true, and_parts}
 use Rattle.model.specs.declared.Own.{Own}
@@ -24,7 +24,7 @@ Builds e = (n x y : ℕ) → n < 256 → y < limit n e.y → instr_of e.op x y �
 small : {X : Type 0} (f : ℕ → X) (y : ℕ) → y < 256 → f (y % 256) ≡ f y
 small f y h = ap f (omega arith)
 
-builds : All Builds table
+builds : AllByRecursion Builds table
 unfolding table
 builds = (
   λ n x y s h. refl,

@@ -1,6 +1,6 @@
 -- Where the rules for a call and a moment stand.
 use Rattle.std.proofs.Common.{◌≡◌, ℕ, ◌+◌, ◌-◌, ◌<◌, ◌≤◌, Bool, true, false, cond, ◌&&◌, ◌||◌, eqb, ltb, ◌⊎◌, List, [], ◌∷◌, ◌++◌, length, get_or, take, drop, set, sym, refl, ap, ◌∙◌, subst, ap₂, inl, inr, append_assoc, append-nil, arith, length-append, length-drop}
-use Rattle.std.specs.List.{flat_map, AllByRecursion as All}
+use Rattle.std.specs.List.{flat_map, AllByRecursion}
 use Rattle.std.proofs.lemmas.List.{take_at, take_rest, drop-drop, drop_at, get_or-set_same, get_or-set_other, get_or-replicate}
 use Rattle.std.proofs.lemmas.Bool.{eq-eqb, ne_eqb, eqb-true, lt-ltb, le-ltb, leb-true, and_left, cond_both, cases_eq, cases_Bool}
 use Rattle.model.specs.declared.Moment.{Moment}
@@ -102,7 +102,7 @@ pub record UpToLast (n k : ℕ) (t : Moment) (p : ℕ) (rs : List Rule) : Type 0
   pub rules : List Rule
   pub behind : List ℕ
   pub bytes : flat_map rule_bytes rs ≡ flat_map rule_bytes rules ++ behind
-  pub valid : All (ValidRule n) rules
+  pub valid : AllByRecursion (ValidRule n) rules
   pub same : rules_of rules k t ≡ rules_of rs k t
   pub last : (e : ℕ) → last_place rs k t p e ≡ p + length (flat_map rule_bytes rules)
 
@@ -110,7 +110,7 @@ pub record UpToLast (n k : ℕ) (t : Moment) (p : ℕ) (rs : List Rule) : Type 0
 abbrev NoLast : ℕ → Moment → ℕ → List Rule → Type 0
 NoLast k t p rs = (rules_of rs k t ≡ []) × ((e : ℕ) → last_place rs k t p e ≡ e)
 
-up_to_last : (n k : ℕ) (t : Moment) (p : ℕ) (rs : List Rule) → All (ValidRule n) rs → NoLast k t p rs ⊎ UpToLast n k t p rs
+up_to_last : (n k : ℕ) (t : Moment) (p : ℕ) (rs : List Rule) → AllByRecursion (ValidRule n) rs → NoLast k t p rs ⊎ UpToLast n k t p rs
 up_to_last n k t p [] v = inl (refl, λ e. refl)
 up_to_last n k t p (r ∷ rs) v = by (up_to_last n k t (p + length (rule_bytes r)) rs v.1) (cases_Bool (eqb r.call k && same_moment r.moment t))
   where
@@ -177,7 +177,7 @@ in_span n f k t p rs l w =
     spans n f k t p rs q h (up_to_last n k t q h.rules h.written.1)
 
 -- no rule is for a call past 63
-pub none_past : (n : ℕ) (rs : List Rule) (k : ℕ) (t : Moment) → All (ValidRule n) rs → 63 < k → rules_of rs k t ≡ []
+pub none_past : (n : ℕ) (rs : List Rule) (k : ℕ) (t : Moment) → AllByRecursion (ValidRule n) rs → 63 < k → rules_of rs k t ≡ []
 none_past n [] k t v h = refl
 none_past n (r ∷ rs) k t v h =
     let c = v.0.call in

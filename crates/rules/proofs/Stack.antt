@@ -10,7 +10,7 @@ use Rattle.rules.specs.Tokens.{room, after, first_token}
 use Rattle.rules.specs.Values.{stacked}
 use Rattle.rules.specs.Writer.{IsCoded}
 use Rattle.model.specs.declared.Test.{Test}
-use Rattle.std.specs.List.{AllByRecursion as All}
+use Rattle.std.specs.List.{AllByRecursion}
 
 -- one token more on the stack
 module _ (a c : List ℤ) where
@@ -130,7 +130,7 @@ pub record Unread (n a : ℕ) (c : List ℕ) (i d : ℕ) : Type 0 where
   pub rest : Expr
   pub reads : tokens n a (drop i c) ≡ Some rest
   pub balance : balanced d rest ≡ true
-  pub valid : All (ValidToken n a) rest
+  pub valid : AllByRecursion (ValidToken n a) rest
 
 abbrev pub unread_start : (n a : ℕ) (c : List ℕ) (ts : Expr) → c ≡ expr_bytes ts → ValidExpr n a ts → Unread n a c 0 0
 unread_start n a c ts e w = record { rest = ts; reads = ap (tokens n a) e ∙ tokens_write n a ts w.tokens; balance = w.balanced; valid = w.tokens }
@@ -153,7 +153,7 @@ module _ (n a : ℕ) (c : List ℕ) (i d : ℕ) (u : Unread n a c i d) where
   unread_more t e =
       let o = taken_off n a (drop i c) t u.rest e u.reads in
       let p = and_parts _ _ (sym (ap (balanced d) o.1 ∙ by_room d t o.0) ∙ u.balance) in
-      let v = subst (All (ValidToken n a)) o.1 u.valid in
+      let v = subst (AllByRecursion (ValidToken n a)) o.1 u.valid in
       record {
         roomy = p.0;
         valid = v.0;

@@ -1,6 +1,6 @@
 -- Rules and updates as parts of a file that reads.
 use Rattle.std.specs.Prelude.{◌≡◌, ℕ, List}
-use Rattle.std.specs.List.{flat_map, AllByRecursion as All}
+use Rattle.std.specs.List.{flat_map, AllByRecursion}
 use Rattle.model.specs.declared.Moment.{Moment}
 use Rattle.model.specs.Rules.{Rule, Update, rule_bytes, update_bytes, expr_bytes, ValidRule, ValidUpdate}
 use Rattle.rules.specs.declared.views.RuleView.{RuleView}
@@ -38,8 +38,8 @@ update_shown u z = record { cell = u.cell; value = expr_bytes u.value; rest = z 
 
 -- the bytes of rules of a policy of n cells
 abbrev pub Written : ℕ → List ℕ → List Rule → Type 0
-Written n b rs = (b ≡ flat_map rule_bytes rs) × All (ValidRule n) rs
+Written n b rs = (b ≡ flat_map rule_bytes rs) × AllByRecursion (ValidRule n) rs
 
 -- the bytes of updates in a policy of n cells where the arguments below a may be read
 abbrev pub WrittenUpdates : ℕ → ℕ → List ℕ → List Update → Type 0
-WrittenUpdates n a b us = (b ≡ flat_map update_bytes us) × All (ValidUpdate n a) us
+WrittenUpdates n a b us = (b ≡ flat_map update_bytes us) × AllByRecursion (ValidUpdate n a) us

@@ -1,7 +1,7 @@
 -- The woven file of an applet that was read.
 use Rattle.std.proofs.Common.{◌≡◌, ℕ, ◌+◌, ◌*◌, ◌<◌, ◌≤◌, leb, List, [], ◌∷◌, ◌++◌, map, length, get_or, take, drop, Ok, Err, sym, refl, ap, ◌∙◌, subst, ap₂, append_assoc, arith, length-append, take-append-drop}
 use lib.ListN.{length-map}
-use Rattle.std.specs.List.{AllByRecursion as All}
+use Rattle.std.specs.List.{AllByRecursion}
 use Rattle.std.proofs.lemmas.List.{at_drop_more, at_drop_all, take_more, take_all, get_or-map, append-nil}
 use Rattle.std.proofs.lemmas.Bool.{le-leb, lt-leb, leb-true}
 use Rattle.model.specs.declared.Instr.{Instr}
@@ -231,7 +231,7 @@ length_err A B a x e = by (sized (method_place a) 0 (woven_of A B a).methods) (l
     by (Err y) n e = sym (same e)
 
 -- methods within their limit
-pub sized_all : (at : ℕ → ℕ) (m : ℕ) (cs : List (List Instr)) → sized at m cs ≡ Ok tt → All (λ c. length c ≤ 4096) cs
+pub sized_all : (at : ℕ → ℕ) (m : ℕ) (cs : List (List Instr)) → sized at m cs ≡ Ok tt → AllByRecursion (λ c. length c ≤ 4096) cs
 sized_all at m [] e = tt
 sized_all at m (c ∷ cs) e = needed _ _ _ _ e λ t e. (leb-true _ _ t, sized_all at (m + 1) cs e)
 

@@ -1,7 +1,7 @@
 -- The woven code of a method, piece by piece.
 use Rattle.std.proofs.Common.{◌≡◌, ℕ, zero, suc, ◌+◌, ◌*◌, ◌/◌, ◌<◌, ◌≤◌, min, Bool, true, false, cond, List, [], ◌∷◌, ◌++◌, map, length, get_or, drop, Some, None, Option, sym, refl, ap, ◌∙◌, subst, ap₂, append_assoc, add-one, arith, length-append}
 use lib.ListN.{length-map}
-use Rattle.std.specs.List.{AllByRecursion as All}
+use Rattle.std.specs.List.{AllByRecursion}
 use Rattle.std.proofs.lemmas.List.{append-nil, drop_more, drop_all}
 use Rattle.model.specs.declared.Instr.{Instr}
 use Rattle.model.specs.declared.Own.{Own}
@@ -129,7 +129,7 @@ module _ (w : ℕ → Bool) (block : ℕ → Moment → List Test) where
 
 -- ---- by the sizes of the calls
 
-all_called : (n : ℕ) (qs : List Quad) → All Called (map own_of (map (λ q. or_end (decode n q)) qs))
+all_called : (n : ℕ) (qs : List Quad) → AllByRecursion Called (map own_of (map (λ q. or_end (decode n q)) qs))
 all_called n [] = tt
 all_called n (q ∷ qs) = (decoded_called n q, all_called n qs)
 
@@ -160,7 +160,7 @@ module _ (A : Automaton) (B : Blocks) (sizes : List ℕ) (right : (k : ℕ) → 
   size_same Own.Ret h = refl
   size_same Own.End h = refl
 
-  same_starts : (cs : List Own) (j : ℕ) → All Called cs → start_by sizes cs j ≡ start A.watched blk cs j
+  same_starts : (cs : List Own) (j : ℕ) → AllByRecursion Called cs → start_by sizes cs j ≡ start A.watched blk cs j
   same_starts [] j h = refl
   same_starts (c ∷ cs) zero h = refl
   same_starts (c ∷ cs) (suc j) h = ap₂ {C = ℕ} (λ x y. x + y) (size_same c h.0) (same_starts cs j h.1)

@@ -1,6 +1,6 @@
 // Woven files.
 ghost use Rattle.std.specs.Prelude.{◌≡◌, ◌+◌, ◌≤◌, length};
-ghost use Rattle.std.specs.List.{AllByRecursion as All};
+ghost use Rattle.std.specs.List.{AllByRecursion};
 ghost use Rattle.model.specs.Areas.{over_area};
 ghost use Rattle.model.specs.Reading.{write_applet, write_codes};
 ghost use Rattle.model.specs.Weaving.{Limited};
@@ -55,7 +55,7 @@ fn put_methods<P: Policy>(
     requires limited { Limited (P.meaning p.now) (P.blocks p.now) }
     requires sizes { HostSizes (P.meaning p.now) (P.blocks p.now) sizes.now }
     requires sound { Sound applet.now }
-    requires short { All (λ c. length c ≤ 4096) (woven_of (P.meaning p.now) (P.blocks p.now) (meant applet.now)).methods }
+    requires short { AllByRecursion (λ c. length c ≤ 4096) (woven_of (P.meaning p.now) (P.blocks p.now) (meant applet.now)).methods }
     requires room { at + length (write_codes (woven_of (P.meaning p.now) (P.blocks p.now) (meant applet.now)).methods) ≤ length area.old }
     ensures { area.new ≡ put_at area.old at (write_codes (woven_of (P.meaning p.now) (P.blocks p.now) (meant applet.now)).methods) }
 {
@@ -79,7 +79,7 @@ fn put_file<P: Policy>(
     requires limited { Limited (P.meaning p.now) (P.blocks p.now) }
     requires sizes { HostSizes (P.meaning p.now) (P.blocks p.now) sizes.now }
     requires sound { Sound applet.now }
-    requires short { All (λ c. length c ≤ 4096) (woven_of (P.meaning p.now) (P.blocks p.now) (meant applet.now)).methods }
+    requires short { AllByRecursion (λ c. length c ≤ 4096) (woven_of (P.meaning p.now) (P.blocks p.now) (meant applet.now)).methods }
     requires room { length (write_applet (woven_of (P.meaning p.now) (P.blocks p.now) (meant applet.now))) ≤ length area.old }
     ensures { area.new ≡ over_area (write_applet (woven_of (P.meaning p.now) (P.blocks p.now) (meant applet.now))) area.old }
 {
