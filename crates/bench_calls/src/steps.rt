@@ -7,7 +7,7 @@ ghost use Rattle.model.specs.Rules.{rules_in, rules_automaton};
 ghost use Rattle.model.specs.Kinds.{pair_automaton};
 ghost use Rattle.policy.specs.Calls.{is_taken};
 ghost use Rattle.machine.specs.Machines.{program, holds_now};
-ghost use Rattle.bench_calls.specs.Counts.{one_if, before_call, takes_of, worked, served, next_of, works as works-in, works_of};
+ghost use Rattle.bench_calls.specs.Counts.{one_if, before_call, takes_of, worked, served, next_of, works as works_in, works_of};
 
 use machine::Machine;
 use model::{Moment, Outcome, Verdict};
@@ -41,7 +41,8 @@ fn takes<P: Policy>(p: &P, call: u8, a0: i32, row: &mut [i32; 32]) -> bool
 
 // Steps a policy's row by the same before event so many times, and answers how many were taken.
 fn taken<P: Policy>(p: &P, call: u8, a0: i32, times: u32) -> u32
-    ensures { result ≡ takes_of (P.meaning p.now) call a0 times }
+    ensures value { result ≡ takes_of (P.meaning p.now) call a0 times }
+    ensures most { result ≤ times }
 {
     let mut row = [0i32; 32];
     let _ = p.starts(&mut row);
@@ -55,7 +56,8 @@ fn taken<P: Policy>(p: &P, call: u8, a0: i32, times: u32) -> u32
 // Steps a rule policy by the same before event so many times, and answers how many were taken.
 #[unsafe(no_mangle)]
 pub extern "C" fn station_steps(policy: &[u8], call: u8, a0: i32, times: u32) -> u32
-    ensures { result ≡ takes_of (rules_automaton (rules_in policy.now)) call a0 times }
+    ensures value { result ≡ takes_of (rules_automaton (rules_in policy.now)) call a0 times }
+    ensures most { result ≤ times }
 {
     taken(&Rules::new(policy), call, a0, times)
 }
@@ -69,7 +71,8 @@ pub extern "C" fn station_pair_steps(
     a0: i32,
     times: u32,
 ) -> u32
-    ensures { result ≡ takes_of (pair_automaton (rules_automaton (rules_in first.now)) (rules_automaton (rules_in second.now))) call a0 times }
+    ensures value { result ≡ takes_of (pair_automaton (rules_automaton (rules_in first.now)) (rules_automaton (rules_in second.now))) call a0 times }
+    ensures most { result ≤ times }
 {
     taken(
         &Pair::new(Rules::new(first), Rules::new(second)),
@@ -98,7 +101,8 @@ fn works(m: &mut Machine<'_>, thread: u8) -> bool
 // Steps the threads of a machine in turn, from the first to the one with the last number, and answers
 // how many steps worked.
 fn worked_steps(m: &mut Machine<'_>, last: u8, steps: u32) -> u64
-    ensures { result ≡ works-in (program m.old) (holds_now m.old) last steps }
+    ensures value { result ≡ works_in (program m.old) (holds_now m.old) last steps }
+    ensures most { result ≤ steps }
 {
     let mut n = 0;
     let mut thread = 0;
@@ -112,7 +116,8 @@ fn worked_steps(m: &mut Machine<'_>, last: u8, steps: u32) -> u64
 // Loads an applet and steps its first thread so many times, and answers how many steps worked.
 #[unsafe(no_mangle)]
 pub extern "C" fn station_run(applet: &[u8], steps: u32) -> u64
-    ensures { result ≡ works_of (load_file applet.now) 0 steps }
+    ensures value { result ≡ works_of (load_file applet.now) 0 steps }
+    ensures most { result ≤ steps }
 {
     station_run_in_turn(applet, 0, steps)
 }
@@ -120,7 +125,8 @@ pub extern "C" fn station_run(applet: &[u8], steps: u32) -> u64
 // The same with its threads in turn, from the first to the one with the last number.
 #[unsafe(no_mangle)]
 pub extern "C" fn station_run_in_turn(applet: &[u8], last: u8, steps: u32) -> u64
-    ensures { result ≡ works_of (load_file applet.now) last steps }
+    ensures value { result ≡ works_of (load_file applet.now) last steps }
+    ensures most { result ≤ steps }
 {
     match Machine::load(applet) {
         Ok(mut m) => worked_steps(&mut m, last, steps),

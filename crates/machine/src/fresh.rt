@@ -1,6 +1,6 @@
 // The state of a machine that was just loaded.
 ghost use Rattle.std.specs.Prelude.{◌≡◌, ◌<◌, ◌≤◌, ◌++◌, map, length, drop, pos, slice_index_or};
-ghost use Rattle.model.specs.Machine.{new_thread, fresh as new-machine};
+ghost use Rattle.model.specs.Machine.{new_thread, fresh as new_machine};
 ghost use Rattle.applet.specs.Applets.{meant};
 ghost use Rattle.machine.specs.Views.{thread_of, threads_of, machine_of};
 
@@ -61,7 +61,7 @@ impl State {
     pub(crate) fn loaded(applet: &Applet<'_>) -> State
         requires threads { length (meant applet.now).entries ≤ 8 }
         requires cells { length (meant applet.now).starts ≤ 32 }
-        ensures { machine_of result ≡ new-machine (meant applet.now) }
+        ensures { machine_of result ≡ new_machine (meant applet.now) }
     {
         let entries = applet.entries();
         let mut threads = [thread_in(0); 8];

@@ -1,7 +1,7 @@
 // Blocks in bytes.
-ghost use Rattle.std.specs.Prelude.{◌≡◌, [], ◌∷◌, length};
+ghost use Rattle.std.specs.Prelude.{◌≡◌, ◌+◌, ◌≤◌, [], ◌∷◌, length};
 ghost use Rattle.model.specs.Calls.{block_bytes};
-ghost use Rattle.policy.specs.Calls.{put_if_room, behind_put};
+ghost use Rattle.policy.specs.Calls.{put_at, put_if_room, behind_put};
 
 use model::{Instr, Test};
 use opcodes::encode;
@@ -10,6 +10,7 @@ use opcodes::encode;
 // it; where there is none the area stays, and so does the place.
 pub fn put(area: &mut [u8], at: usize, test: Test) -> usize
     ensures area { area.new ≡ put_if_room area.old at (block_bytes (test ∷ [])) }
+    ensures room { at + 4 ≤ length area.old → area.new ≡ put_at area.old at (block_bytes (test ∷ [])) }
     ensures behind { result ≡ behind_put area.old at (block_bytes (test ∷ [])) }
 {
     let size = area.len();

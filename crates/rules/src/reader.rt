@@ -4,7 +4,7 @@ ghost use Rattle.model.specs.Moments.{moment_of};
 ghost use Rattle.model.specs.Fields.{fields};
 ghost use Rattle.model.specs.Rules.{triples as sized, update_field, rule_field, read_rules};
 ghost use Rattle.rules.specs.Pieces.{forget};
-ghost use Rattle.rules.specs.Reader.{earlier as sooner, bad_expr, bad_update, bad_rule, one_bad, faulty, headed as call-and-moment, updating as cell-and-tokens, heading as format-and-cells, opened};
+ghost use Rattle.rules.specs.Reader.{earlier as sooner, bad_expr, bad_update, bad_rule, one_bad, faulty, headed as call_and_moment, updating as cell_and_tokens, heading as format_and_cells, opened};
 
 use crate::pieces::due;
 use crate::sizes::short_blocks;
@@ -60,7 +60,7 @@ fn fault(c: &[u8], at: usize, cells: u8, arguments: u8) -> Option<usize>
 
 // Whether the contents of an update are a cell, and 1 to 32 tokens.
 fn updating(c: &[u8], cells: u8) -> bool
-    ensures { result ≡ cell-and-tokens cells c.now }
+    ensures { result ≡ cell_and_tokens cells c.now }
 {
     c.len() >= 1 && c[0] < cells && triples(&c[1..])
 }
@@ -98,7 +98,7 @@ fn updates(holder: &[u8], from: usize, cells: u8, arguments: u8) -> Result<Optio
 
 // Whether the contents of a rule begin with a call and a moment.
 fn headed(c: &[u8]) -> bool
-    ensures { result ≡ call-and-moment c.now }
+    ensures { result ≡ call_and_moment c.now }
 {
     c.len() >= 2 && c[0] <= 63 && c[1] <= 2
 }
@@ -145,7 +145,7 @@ fn rules(file: &[u8], from: usize, cells: u8) -> Result<Option<usize>, Refusal>
 
 // Whether the contents of the head are the format, 1, and up to 16 cells.
 fn heading(c: &[u8]) -> bool
-    ensures { result ≡ format-and-cells c.now }
+    ensures { result ≡ format_and_cells c.now }
 {
     c.len() == 2 && c[0] == 1 && c[1] <= 16
 }

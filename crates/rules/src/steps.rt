@@ -1,6 +1,6 @@
 // The step of a rule policy: the first rule with a nonzero guard acts.
 ghost use Rattle.std.specs.Prelude.{◌≡◌, ℕ, ◌+◌, ◌*◌, ◌≤◌, List, ◌++◌, map, length, drop, slice_set};
-ghost use Rattle.model.specs.Policy.{arguments as readable-at};
+ghost use Rattle.model.specs.Policy.{arguments as readable_at};
 ghost use Rattle.model.specs.Words.{quads, signed_of, quad_at};
 ghost use Rattle.model.specs.Calls.{verdict_of, row_behind};
 ghost use Rattle.model.specs.Rules.{Rule, Update, updated, rules_of, rules_step, has_rule};
@@ -53,7 +53,7 @@ fn search<'a>(
     args: &[i32; 5],
     cells: &[i32],
 ) -> Acting<'a>
-    ensures { (rs : List Rule) → Written width rules.now rs → Meets width (readable-at moment) args.now cells.now (rules_of rs call moment) result }
+    ensures { (rs : List Rule) → Written width rules.now rs → Meets width (readable_at moment) args.now cells.now (rules_of rs call moment) result }
 {
     let mut none = true;
     let mut rest = rules;

@@ -8,7 +8,9 @@ pub returns : goal.returns
 returns c =
     let room : c.args.at + 4 ≤ length c.args.area.now = omega arith in
     let t = le-leb (c.args.at + 4) (length c.args.area.now) room in
+    let p = part_put c.args.area.now _ (block_bytes (c.args.test ∷ [])) c.args.at 4 (c.copy_from_slice.ensures.after ∙ c.encode.ensures.value) refl in
     record {
-      area = rw t (part_put c.args.area.now _ (block_bytes (c.args.test ∷ [])) c.args.at 4 (c.copy_from_slice.ensures.after ∙ c.encode.ensures.value) refl);
+      area = rw t p;
+      room = λ h. p;
       behind = rw t refl;
     }
