@@ -10,13 +10,13 @@ mod sites;
 mod weave;
 mod words;
 
-use anyhow::anyhow;
 use applet::Applet;
 use machine::Machine;
 use model::{PolicyKind, Refusal};
 use policies::{Answer, Task};
 use policy::{Pair, Policy, limits, policy_kind};
 use rules::Rules;
+use std::process::ExitCode;
 use std::{env, fs};
 use tables::Table;
 
@@ -389,12 +389,10 @@ fn command(rt: &HostRuntime) -> anyhow::Result<Ended> {
     }
 }
 
-fn main(rt: HostRuntime) -> anyhow::Result<()> {
-    match command(&rt) {
-        Ok(Ended::Done) => Ok(()),
-        Ok(Ended::Refused) => Err(anyhow!("refused")),
-        Ok(Ended::Parted) => Err(anyhow!("parted")),
-        Ok(Ended::Failed) => Err(anyhow!("failed")),
-        Err(e) => Err(e),
+// A refusal, or what cannot be done, is told by then: the status alone says it once more.
+fn main(rt: HostRuntime) -> anyhow::Result<ExitCode> {
+    match command(&rt)? {
+        Ended::Done => Ok(ExitCode::SUCCESS),
+        Ended::Refused | Ended::Parted | Ended::Failed => Ok(ExitCode::FAILURE),
     }
 }
