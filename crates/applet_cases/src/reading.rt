@@ -332,7 +332,7 @@ const STARTS: &'static [(usize, Option<i32>)] = &[
 #[test]
 fn accessors(rt: HostRuntime) -> Result<(), Fail> {
     let a = Applet::read(B)?;
-    assert!(rt; a.entries() == [2, 0]);
+    assert!(rt; a.entries() == [2, 0].as_slice());
     assert_eq!(rt; a.starts(), 2);
     assert_eq!(rt; a.methods(), 3);
     for (s, start) in STARTS {

@@ -161,7 +161,7 @@ const B: [u8; 54] = [
 #[test]
 fn accessors(rt: HostRuntime) -> Result<(), Fail> {
     let a = Applet::read(&B)?;
-    assert!(rt; a.entries() == [2, 0]);
+    assert!(rt; a.entries() == [2, 0].as_slice());
     assert_eq!(rt; a.starts(), 2);
     assert_eq!(rt; a.start(0), Some(7));
     assert_eq!(rt; a.start(1), Some(-2));

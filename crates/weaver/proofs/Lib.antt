@@ -1,3 +1,5 @@
+-- what an opcode tells
+pub mod Opcodes
 -- woven indices
 pub mod Starts
 -- sites in bytes

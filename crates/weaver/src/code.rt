@@ -4,6 +4,7 @@ ghost use Rattle.model.specs.Words.{quad_at, decode as decoding};
 ghost use Rattle.model.specs.Weave.{retarget as retargeted};
 ghost use Rattle.applet.specs.Applets.{or_end};
 ghost use Rattle.weaver.specs.Pieces.{own_of, owns, Called, size_by, start_by};
+ghost use Rattle.weaver.specs.Weaves.{is_own};
 
 use model::{Instr, Own};
 use opcodes::decode;
@@ -35,6 +36,27 @@ pub(crate) fn own_at(code: &[u8], index: usize, methods: u8) -> Own
     }
 }
 
+// Whether the instruction at an index is one of the applet's own; opcodes below 20 need no decoding.
+pub(crate) fn own_there(code: &[u8], index: usize, methods: u8) -> bool
+    requires { 4 * index + 4 ≤ length code.now }
+    ensures { result ≡ is_own (or_end (decoding methods (quad_at code.now (4 * index)))) }
+{
+    if code[4 * index] < 0x20 {
+        return true;
+    }
+    is_own(instr_at(code, index, methods))
+}
+
+// Whether an instruction is one of the applet's own.
+fn is_own(i: Instr) -> bool
+    ensures { result ≡ is_own i }
+{
+    match i {
+        Instr::Own(_) => true,
+        _ => false,
+    }
+}
+
 // How many instructions stand for one.
 pub(crate) fn size_of(c: Own, sizes: &[u16; 64]) -> u16
     requires { Called c }
@@ -44,6 +66,21 @@ pub(crate) fn size_of(c: Own, sizes: &[u16; 64]) -> u16
         Own::Host(call, _) => sizes[call as usize],
         _ => 1,
     }
+}
+
+// How many instructions stand for the one at an index, by its opcode and its call.
+fn size_at(code: &[u8], index: usize, methods: u8, sizes: &[u16; 64]) -> u16
+    requires { 4 * index + 4 ≤ length code.now }
+    ensures { result ≡ size_by sizes.now (own_of (or_end (decoding methods (quad_at code.now (4 * index))))) }
+{
+    if code[4 * index] != 0x0d {
+        return 1;
+    }
+    let call = code[4 * index + 1];
+    if call < 64 {
+        return sizes[call as usize];
+    }
+    size_of(own_at(code, index, methods), sizes)
 }
 
 // Fills in the woven index of each of a method's indices and of its end, and answers the last.
@@ -60,7 +97,7 @@ pub(crate) fn fill_starts(
     let mut end: u32 = 0;
     starts[0] = 0;
     for index in 0..code.len() / 4 {
-        end += size_of(own_at(code, index, methods), sizes) as u32;
+        end += size_at(code, index, methods, sizes) as u32;
         starts[index + 1] = end;
     }
     end as usize

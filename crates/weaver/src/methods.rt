@@ -8,13 +8,13 @@ ghost use Rattle.model.specs.Weave.{start};
 ghost use Rattle.model.specs.Weaving.{Limited};
 ghost use Rattle.policy.specs.Calls.{put_at};
 ghost use Rattle.weaver.specs.Pieces.{instrs, owns, HostSizes, woven_code};
-ghost use Rattle.weaver.specs.Weaves.{is_own, forget, Sound, MethodAt};
+ghost use Rattle.weaver.specs.Weaves.{forget, Sound, MethodAt};
 
-use crate::code::{fill_starts, instr_at, own_at, retarget};
+use crate::code::{fill_starts, own_at, own_there, retarget};
 use crate::fields::put_head;
 use crate::sites::put_piece;
 use applet::Applet;
-use model::{Instr, Refusal};
+use model::Refusal;
 use policy::Policy;
 
 // A method: its place in the file, and its code.
@@ -38,16 +38,6 @@ pub(crate) fn nth_method<'a>(applet: &Applet<'a>, m: usize) -> Option<Method<'a>
     Some(Method { place, code })
 }
 
-// Whether an instruction is one of the applet's own.
-fn is_own(i: Instr) -> bool
-    ensures { result ≡ is_own i }
-{
-    match i {
-        Instr::Own(_) => true,
-        _ => false,
-    }
-}
-
 // Refuses the first instruction of a method that is none of the applet's own; the code stands at a
 // place of the file.
 fn plain_method(code: &[u8], methods: u8, place: usize) -> Result<(), Refusal>
@@ -55,7 +45,7 @@ fn plain_method(code: &[u8], methods: u8, place: usize) -> Result<(), Refusal>
     ensures { result ≡ forget (plain_code (λ i. place + 4 * i) 0 (instrs methods code.now)) }
 {
     for index in 0..code.len() / 4 {
-        if !is_own(instr_at(code, index, methods)) {
+        if !own_there(code, index, methods) {
             return Err(Refusal::NotPlain(place + 4 * index));
         }
     }

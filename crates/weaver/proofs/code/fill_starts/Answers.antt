@@ -1,5 +1,5 @@
-use Rattle.std.proofs.Common.{sym, ap, ◌∙◌, arith, length-set}
-use Rattle.weaver.specs.Pieces.{owns, size_by}
+use Rattle.std.proofs.Common.{sym, ◌∙◌, arith, length-set}
+use Rattle.weaver.specs.Pieces.{owns}
 use Rattle.weaver.proofs.Starts.{start_zero, start_next, filled_first, filled_more}
 use Rattle.weaver.proofs.code.fill_starts.Goals as goal
 
@@ -15,8 +15,7 @@ loop-index-preserved c =
     let sizes = c.args.sizes.now in
     let cs = owns c.args.methods c.args.code.now in
     let i = c.loop-index.index in
-    let n = start_next c.args.methods c.args.code.now sizes i c.size_of.result c.loop-index.end (omega arith)
-    (c.size_of.ensures ∙ ap (size_by sizes) c.own_at.ensures.value) s.0 in
+    let n = start_next c.args.methods c.args.code.now sizes i c.size_at.result c.loop-index.end (omega arith) c.size_at.ensures s.0 in
     let l = s.2 in
     let b = s.1 in
     (n, omega arith, length-set _ _ _ ∙ l, filled_more sizes cs i _ c.loop-index.starts (omega arith) n s.3)
