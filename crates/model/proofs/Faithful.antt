@@ -7,7 +7,8 @@ use Rattle.model.specs.declared.Moment.{Moment}
 use Rattle.model.specs.declared.Own.{Own}
 use Rattle.model.specs.declared.Test.{Test}
 use Rattle.model.specs.declared.Instr.{Instr}
-use Rattle.model.specs.Policy.{Automaton, Event, turn, Turn, exec, Ran}
+use Rattle.model.specs.declared.Event.{Event}
+use Rattle.model.specs.Policy.{Automaton, turn, Turn, exec, Ran}
 use Rattle.model.specs.declared.Outcome.{Outcome}
 use Rattle.model.specs.declared.Status.{Status}
 use Rattle.model.specs.Machine.{with_thread, Applet, Machine, Thread, Frame, Stepped, thread, fetch, step, answer, by_status}

@@ -4,7 +4,8 @@ use Rattle.std.proofs.lemmas.List.{length-take-le}
 use Rattle.std.proofs.lemmas.Bool.{leb-true}
 use Rattle.model.specs.declared.Refusal.TheVariants.{AreaTooShort, NoSuchEvent, TooManyCells}
 use Rattle.model.specs.declared.Verdict.{Verdict}
-use Rattle.model.specs.Policy.{Automaton, Blocks, Event, Showing}
+use Rattle.model.specs.declared.Event.{Event}
+use Rattle.model.specs.Policy.{Automaton, Blocks, Showing}
 use Rattle.model.specs.Fields.{Read, need, ◌>>=◌, ◌>>◌}
 use Rattle.model.specs.Calls.{RowKept, whole_row, row_by, row_behind, verdict_of}
 

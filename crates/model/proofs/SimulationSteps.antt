@@ -6,7 +6,8 @@ use Rattle.std.proofs.lemmas.Bool.{eq-eqb, ne_eqb, lt-ltb}
 use Rattle.model.specs.declared.Moment.{Moment}
 use Rattle.model.specs.declared.Own.{Own}
 use Rattle.model.specs.declared.Instr.{Instr}
-use Rattle.model.specs.Policy.{Event, exec, Ran, end, due}
+use Rattle.model.specs.declared.Event.{Event}
+use Rattle.model.specs.Policy.{exec, Ran, end, due}
 use Rattle.model.specs.declared.Outcome.{Outcome}
 use Rattle.model.specs.declared.Status.{Status}
 use Rattle.model.specs.Machine.{with_thread, with_shared, Applet, Machine, Thread, Frame, Stepped, Local, thread, new_thread, step}

@@ -5,7 +5,8 @@ use Rattle.model.specs.declared.Moment.{Moment}
 use Rattle.model.specs.declared.Test.{Test}
 use Rattle.model.specs.declared.Verdict.{Verdict}
 use Rattle.model.specs.declared.Refusal.TheVariants.{AreaTooShort, NoSuchEvent, BlockTooLong, TooManyCells}
-use Rattle.model.specs.Policy.{Automaton, Blocks, Event}
+use Rattle.model.specs.declared.Event.{Event}
+use Rattle.model.specs.Policy.{Automaton, Blocks}
 use Rattle.model.specs.Fields.{Read, need, ◌>>=◌, ◌>>◌}
 use Rattle.model.specs.Reading.{write_code}
 use Rattle.model.specs.Areas.{area_after}

@@ -6,6 +6,8 @@ use Rattle.model.specs.declared.Outcome.{Outcome}
 use Rattle.model.specs.declared.Status.{Status}
 use Rattle.model.specs.declared.Reason.{Reason}
 use Rattle.model.specs.declared.Reason.TheVariants.{Finished, TooDeep, NotHolder}
+use Rattle.model.specs.declared.Reply.{Reply}
+use Rattle.model.specs.declared.Reply.TheVariants.{Normal, Raised}
 use Rattle.model.specs.declared.Own.{Own}
 use Rattle.model.specs.declared.Instr.{Instr}
 use Rattle.model.specs.Policy.{eqZ, flag, Turn, turn}
@@ -245,6 +247,15 @@ raised_target (Instr.Own Own.End) = 0
 raised_target (Instr.Lock x) = 0
 raised_target Instr.Unlock = 0
 raised_target (Instr.Test x) = 0
+
+-- an answer is a raised one, and its value
+abbrev pub is_raised : Reply → Bool
+is_raised (Normal v) = false
+is_raised (Raised v) = true
+
+abbrev pub reply_value : Reply → ℤ
+reply_value (Normal v) = v
+reply_value (Raised v) = v
 
 -- a thread with its answer v, behind the HOST when normal, at its target when raised
 abbrev pub resume : Applet → Thread → Bool → ℤ → Thread

@@ -2,18 +2,12 @@
 use Rattle.std.specs.Prelude.{◌≡◌, ℕ, zero, suc, ◌+◌, ◌<◌, ◌≤◌, Bool, true, false, cond, not, ◌&&◌, ◌||◌, List, [], ◌∷◌, ◌++◌, length, ℤ, pos, negsuc, ◌+ℤ◌, ◌-ℤ◌, Some, None, Option, FitsSigned, ◌==◌, int_lt, slice_index_or, slice_set}
 use Rattle.std.specs.List.{AllByRecursion}
 use Rattle.std.specs.Int.{int_wrap, w16, w32}
+use Rattle.model.specs.declared.Event.{Event}
 use Rattle.model.specs.declared.Moment.{Moment}
 use Rattle.model.specs.declared.Operator.{Operator}
 use Rattle.model.specs.declared.Operator.TheVariants.{Plus, Minus, Less, Equal, Both, Either}
 use Rattle.model.specs.declared.Test.{Test}
 use Rattle.model.specs.declared.Test.TheVariants.{Skip, Skz, Viol, Mset, Mcell, Marg, Store, Op}
-
--- a watched call at a moment
-pub record Event : Type 0 where
-  pub moment : Moment
-  pub call : ℕ
-  pub args : List ℤ
-  pub answer : ℤ
 
 -- what a policy means: cells, their start values, the watched calls, and a step that gives cells or refuses
 pub record Automaton : Type 0 where

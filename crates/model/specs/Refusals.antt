@@ -1,5 +1,6 @@
 -- The number and the place of each refusal.
-use Rattle.std.specs.Prelude.{ℕ}
+use Rattle.std.specs.Prelude.{ℕ, Option, Some, None}
+use Rattle.std.specs.Option.{unwrap_or}
 use Rattle.model.specs.declared.Refusal.{Refusal}
 use Rattle.model.specs.declared.Refusal.TheVariants.{AreaTooShort, NoThread, NotAwaiting, StillAwaiting, ThreadEnded, MachineStopped, LockHeld, NoSuchEvent, BadField, BadSize, BadInstruction, BadLanding, NotPlain, MethodTooLong, FileTooLong, BadPolicyField, BadPolicySize, BadExpression, SecondRow, BlockTooLong, TooManyCells, OtherStarts, OutsideSite, OffSite, NoEntry}
 
@@ -31,30 +32,34 @@ number (OutsideSite p) = 31
 number (OffSite p) = 32
 number (NoEntry p) = 33
 
--- the offset at which the file is at fault, 0 if none is
+-- the offset at which the file is at fault, if one is
+abbrev pub location : Refusal → Option ℕ
+location AreaTooShort = None
+location NoThread = None
+location NotAwaiting = None
+location StillAwaiting = None
+location ThreadEnded = None
+location MachineStopped = None
+location LockHeld = None
+location NoSuchEvent = None
+location (BadField p) = Some p
+location (BadSize p) = Some p
+location (BadInstruction p) = Some p
+location (BadLanding p) = Some p
+location (NotPlain p) = Some p
+location (MethodTooLong p) = Some p
+location FileTooLong = None
+location (BadPolicyField p) = Some p
+location (BadPolicySize p) = Some p
+location (BadExpression p) = Some p
+location (SecondRow p) = Some p
+location BlockTooLong = None
+location TooManyCells = None
+location (OtherStarts p) = Some p
+location (OutsideSite p) = Some p
+location (OffSite p) = Some p
+location (NoEntry p) = Some p
+
+-- the same, 0 if none is
 abbrev pub place : Refusal → ℕ
-place AreaTooShort = 0
-place NoThread = 0
-place NotAwaiting = 0
-place StillAwaiting = 0
-place ThreadEnded = 0
-place MachineStopped = 0
-place LockHeld = 0
-place NoSuchEvent = 0
-place (BadField p) = p
-place (BadSize p) = p
-place (BadInstruction p) = p
-place (BadLanding p) = p
-place (NotPlain p) = p
-place (MethodTooLong p) = p
-place FileTooLong = 0
-place (BadPolicyField p) = p
-place (BadPolicySize p) = p
-place (BadExpression p) = p
-place (SecondRow p) = p
-place BlockTooLong = 0
-place TooManyCells = 0
-place (OtherStarts p) = p
-place (OutsideSite p) = p
-place (OffSite p) = p
-place (NoEntry p) = p
+place r = unwrap_or (location r) 0

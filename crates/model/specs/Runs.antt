@@ -1,6 +1,7 @@
 -- Runs, their calls and answers, the events in them, and what a policy accepts.
 use Rattle.std.specs.Prelude.{◌≡◌, ℕ, Bool, true, false, cond, List, [], ◌∷◌, ◌++◌, ℤ, pos, Some, None, Option, ◌==◌}
-use Rattle.model.specs.Policy.{Automaton, Event}
+use Rattle.model.specs.declared.Event.{Event}
+use Rattle.model.specs.Policy.{Automaton}
 use Rattle.model.specs.declared.Moment.{Moment}
 use Rattle.model.specs.declared.Outcome.{Outcome}
 use Rattle.model.specs.Moments.{is_before}

@@ -5,7 +5,8 @@ use Rattle.model.specs.declared.Moment.{Moment}
 use Rattle.model.specs.declared.Refusal.{Refusal}
 use Rattle.model.specs.declared.Verdict.{Verdict}
 use Rattle.model.specs.Moments.{is_before}
-use Rattle.model.specs.Policy.{Automaton, Event}
+use Rattle.model.specs.declared.Event.{Event}
+use Rattle.model.specs.Policy.{Automaton}
 use Rattle.model.specs.Runs.{Accepts}
 use Rattle.model.specs.Fields.{Read, ◌>>=◌}
 use Rattle.model.specs.Calls.{started_row, stepped_row, verdict_of, row_behind}

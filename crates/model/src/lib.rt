@@ -3,11 +3,11 @@
 #![tactic(auto)]
 
 ghost use Rattle.std.specs.Prelude.{◌≡◌};
-ghost use Rattle.model.specs.Refusals.{number, place};
-ghost use Rattle.model.specs.Moments.{moment_number};
-ghost use Rattle.model.specs.Machine.{reason_number};
 ghost use Rattle.model.specs.Examples.{Worked};
 ghost use Rattle.model.specs.RefusedFiles.{Refused, Listed};
+
+mod numbers;
+mod texts;
 
 // An operator of a policy's test: a sum or a difference, which wrap, or a comparison or a
 // connective, which give 1 or 0.
@@ -71,6 +71,15 @@ pub enum Moment {
     Raised,
 }
 
+// A watched call at a moment: its number and arguments, and, behind it, its answer.
+#[derive(Clone, Copy, PartialEq, Eq, Debug)]
+pub struct Event {
+    pub moment: Moment,
+    pub call: u8,
+    pub args: [i32; 4],
+    pub answer: i32,
+}
+
 // What a policy says of an event: it takes it, or refuses it, which is no refusal of the call.
 #[derive(Clone, Copy, PartialEq, Eq, Debug)]
 pub enum Verdict {
@@ -91,6 +100,13 @@ pub enum Status {
     Ready,
     Awaiting,
     Ended,
+}
+
+// The host's answer to a call: normal, or raised.
+#[derive(Clone, Copy, PartialEq, Eq, Debug)]
+pub enum Reply {
+    Normal(i32),
+    Raised(i32),
 }
 
 // Why a thread ended: END, or RET in its first frame; CALL with all frames in use; UNLOCK without
@@ -148,90 +164,6 @@ pub enum Refusal {
     OutsideSite(usize),
     OffSite(usize),
     NoEntry(usize),
-}
-
-impl Refusal {
-    // The refusal's number.
-    pub fn number(&self) -> u8
-        ensures { result ≡ number self.now }
-    {
-        match *self {
-            Refusal::AreaTooShort => 1,
-            Refusal::NoThread => 2,
-            Refusal::NotAwaiting => 3,
-            Refusal::StillAwaiting => 4,
-            Refusal::ThreadEnded => 5,
-            Refusal::MachineStopped => 6,
-            Refusal::LockHeld => 7,
-            Refusal::NoSuchEvent => 8,
-            Refusal::BadField(_) => 10,
-            Refusal::BadSize(_) => 11,
-            Refusal::BadInstruction(_) => 12,
-            Refusal::BadLanding(_) => 13,
-            Refusal::NotPlain(_) => 14,
-            Refusal::MethodTooLong(_) => 15,
-            Refusal::FileTooLong => 16,
-            Refusal::BadPolicyField(_) => 20,
-            Refusal::BadPolicySize(_) => 21,
-            Refusal::BadExpression(_) => 22,
-            Refusal::SecondRow(_) => 23,
-            Refusal::BlockTooLong => 24,
-            Refusal::TooManyCells => 25,
-            Refusal::OtherStarts(_) => 30,
-            Refusal::OutsideSite(_) => 31,
-            Refusal::OffSite(_) => 32,
-            Refusal::NoEntry(_) => 33,
-        }
-    }
-
-    // The refusal's place, 0 where no file is at fault.
-    pub fn place(&self) -> usize
-        ensures { result ≡ place self.now }
-    {
-        match *self {
-            Refusal::BadField(p) => p,
-            Refusal::BadSize(p) => p,
-            Refusal::BadInstruction(p) => p,
-            Refusal::BadLanding(p) => p,
-            Refusal::NotPlain(p) => p,
-            Refusal::MethodTooLong(p) => p,
-            Refusal::BadPolicyField(p) => p,
-            Refusal::BadPolicySize(p) => p,
-            Refusal::BadExpression(p) => p,
-            Refusal::SecondRow(p) => p,
-            Refusal::OtherStarts(p) => p,
-            Refusal::OutsideSite(p) => p,
-            Refusal::OffSite(p) => p,
-            Refusal::NoEntry(p) => p,
-            _ => 0,
-        }
-    }
-}
-
-impl Moment {
-    // The moment's number: 0, 1 or 2.
-    pub fn number(&self) -> u8
-        ensures { result ≡ moment_number self.now }
-    {
-        match *self {
-            Moment::Before => 0,
-            Moment::After => 1,
-            Moment::Raised => 2,
-        }
-    }
-}
-
-impl Reason {
-    // The reason's number: 0, 1 or 2.
-    pub fn number(&self) -> u8
-        ensures { result ≡ reason_number self.now }
-    {
-        match *self {
-            Reason::Finished => 0,
-            Reason::TooDeep => 1,
-            Reason::NotHolder => 2,
-        }
-    }
 }
 
 // The definitions compute, from bytes up, what was worked out by hand: the examples of the

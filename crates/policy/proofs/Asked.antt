@@ -6,7 +6,8 @@ use Rattle.model.specs.declared.Moment.{Moment}
 use Rattle.model.specs.declared.Refusal.{Refusal}
 use Rattle.model.specs.declared.Refusal.TheVariants.{AreaTooShort, NoSuchEvent, BlockTooLong, TooManyCells}
 use Rattle.model.specs.declared.Test.{Test}
-use Rattle.model.specs.Policy.{Automaton, Blocks, Event, Showing}
+use Rattle.model.specs.declared.Event.{Event}
+use Rattle.model.specs.Policy.{Automaton, Blocks, Showing}
 use Rattle.model.specs.Fields.{Read, need, ◌>>=◌, ◌>>◌}
 use Rattle.model.specs.Areas.{over_area, area_after}
 use Rattle.model.specs.Calls.{told_width, told_length, known_call, watched_answer, starts_answer, starts_row, over_row, row_by, whole_row}

@@ -8,7 +8,8 @@ use Rattle.model.specs.declared.Moment.{Moment}
 use Rattle.model.specs.declared.Refusal.{Refusal}
 use Rattle.model.specs.declared.Refusal.TheVariants.{NoSuchEvent}
 use Rattle.model.specs.declared.Verdict.{Verdict}
-use Rattle.model.specs.Policy.{Automaton, Blocks, Event, Showing}
+use Rattle.model.specs.declared.Event.{Event}
+use Rattle.model.specs.Policy.{Automaton, Blocks, Showing}
 use Rattle.model.specs.Fields.{need, ◌>>=◌, ◌>>◌}
 use Rattle.model.specs.Calls.{told_width, told_length, watched_answer, starts_row, over_row, whole_row, verdict_of, row_behind, step_answer, row_after}
 use Rattle.model.specs.Calls.{block_bytes, block_area}

@@ -3,7 +3,8 @@ use Rattle.std.proofs.Common.{◌≡◌, Bool, true, false, List, ℤ, Ok, Err, 
 use mathlib.Core.Path.{subst⁻¹}
 use Rattle.model.specs.declared.Refusal.{Refusal}
 use Rattle.model.specs.declared.Verdict.{Verdict}
-use Rattle.model.specs.Policy.{Automaton, Event}
+use Rattle.model.specs.declared.Event.{Event}
+use Rattle.model.specs.Policy.{Automaton}
 use Rattle.model.specs.Fields.{Read, ◌>>=◌, ◌>>◌}
 use Rattle.model.specs.Calls.{starts_answer, starts_row, step_answer, row_after, row_by, row_behind, roomy_row, over_row, stepped_row, verdict_of}
 use Rattle.model.specs.Watch.{Watch, watch_by, begin_answer, begun_after, judged, goes_on, judge_answer, judged_after}

@@ -5,7 +5,7 @@ ghost use Rattle.std.specs.Prelude.{◌≡◌};
 ghost use Rattle.model.specs.Policy.{Automaton, Blocks, Showing};
 ghost use Rattle.model.specs.Calls.{told_width, told_length, starts_answer, starts_row, watched_answer, step_answer, row_after, block_answer, block_area};
 
-use model::{Moment, Refusal, Verdict};
+use model::{Event, Moment, Refusal, Verdict};
 
 mod blocks;
 mod bounds;
@@ -48,16 +48,9 @@ pub trait Policy {
 
     // Steps the row by an event. If the policy refuses it, or the call is refused, the row stays; cells
     // past the width never change.
-    fn step(
-        &self,
-        moment: Moment,
-        call: u8,
-        args: &[i32; 4],
-        answer: i32,
-        row: &mut [i32],
-    ) -> Result<Verdict, Refusal>
-        ensures answer { result ≡ step_answer (meaning self.now) (record { moment = moment; call = call; args = args.now; answer = answer }) row.old }
-        ensures row { row.new ≡ row_after (meaning self.now) (record { moment = moment; call = call; args = args.now; answer = answer }) row.old };
+    fn step(&self, event: &Event, row: &mut [i32]) -> Result<Verdict, Refusal>
+        ensures answer { result ≡ step_answer (meaning self.now) event.now row.old }
+        ensures row { row.new ≡ row_after (meaning self.now) event.now row.old };
 
     // How many instructions the block for a call and a moment has, or 65,535 where there are more.
     fn block_len(&self, call: u8, moment: Moment) -> u16

@@ -8,7 +8,7 @@ ghost use Rattle.policy.specs.Calls.{is_taken};
 
 use crate::Policy;
 use crate::calls::{may_start, may_step, may_write};
-use model::{Moment, Refusal, Verdict};
+use model::{Event, Moment, Refusal, Verdict};
 
 // Two policies that must both take an event; the second's cells follow the first's.
 #[derive(Drop)]
@@ -39,10 +39,7 @@ fn put_back(row: &mut [i32], cells: &[i32; 32], w: usize)
 fn taken(answer: Result<Verdict, Refusal>) -> bool
     ensures { result ≡ is_taken answer }
 {
-    match answer {
-        Ok(Verdict::Taken) => true,
-        _ => false,
-    }
+    matches!(answer, Ok(Verdict::Taken))
 }
 
 // Writes a policy's block from a place of the area on.
@@ -65,32 +62,17 @@ impl<P, Q> Pair<P, Q> {
 impl<P: Policy, Q: Policy> Pair<P, Q> {
     // Both steps in the row, of which the first has `a` cells and both have `w`. If one of them refuses
     // the event, only the first's cells may change.
-    fn step_both(
-        &self,
-        moment: Moment,
-        call: u8,
-        args: &[i32; 4],
-        answer: i32,
-        cells: &mut [i32],
-        a: usize,
-        w: usize,
-    ) -> Verdict
-        requires { (call ≤ 63) × (a ≡ (P.Policy.meaning self.now.first).width) × (w ≡ a + (Q.Policy.meaning self.now.second).width) × (w ≤ 32) × (w ≤ length cells.old) }
-        ensures answer { result ≡ verdict_of ((pair_automaton (P.Policy.meaning self.now.first) (Q.Policy.meaning self.now.second)).step (record { moment = moment; call = call; args = args.now; answer = answer }) (take w cells.old)) }
-        ensures cells { result ≡ Verdict.Taken → Some (take w cells.new) ≡ (pair_automaton (P.Policy.meaning self.now.first) (Q.Policy.meaning self.now.second)).step (record { moment = moment; call = call; args = args.now; answer = answer }) (take w cells.old) }
+    fn step_both(&self, event: &Event, cells: &mut [i32], a: usize, w: usize) -> Verdict
+        requires { (event.now.call ≤ 63) × (a ≡ (P.Policy.meaning self.now.first).width) × (w ≡ a + (Q.Policy.meaning self.now.second).width) × (w ≤ 32) × (w ≤ length cells.old) }
+        ensures answer { result ≡ verdict_of ((pair_automaton (P.Policy.meaning self.now.first) (Q.Policy.meaning self.now.second)).step event.now (take w cells.old)) }
+        ensures cells { result ≡ Verdict.Taken → Some (take w cells.new) ≡ (pair_automaton (P.Policy.meaning self.now.first) (Q.Policy.meaning self.now.second)).step event.now (take w cells.old) }
         ensures past { result ≡ Verdict.Taken → drop w cells.new ≡ drop w cells.old }
         ensures kept { result ≡ Verdict.Refused → drop a cells.new ≡ drop a cells.old }
     {
-        if !taken(
-            self.first
-                .step(moment, call, args, answer, &mut cells[0..a]),
-        ) {
+        if !taken(self.first.step(event, &mut cells[0..a])) {
             return Verdict::Refused;
         }
-        if !taken(
-            self.second
-                .step(moment, call, args, answer, &mut cells[a..w]),
-        ) {
+        if !taken(self.second.step(event, &mut cells[a..w])) {
             return Verdict::Refused;
         }
         Verdict::Taken
@@ -122,20 +104,13 @@ impl<P: Policy, Q: Policy> Policy for Pair<P, Q> {
         Ok(a || b)
     }
 
-    fn step(
-        &self,
-        moment: Moment,
-        call: u8,
-        args: &[i32; 4],
-        answer: i32,
-        row: &mut [i32],
-    ) -> Result<Verdict, Refusal> {
+    fn step(&self, event: &Event, row: &mut [i32]) -> Result<Verdict, Refusal> {
         let w = self.width();
-        may_step(call, w, row.len())?;
+        may_step(event.call, w, row.len())?;
         let a = usize::from(self.first.width());
         let w = usize::from(w);
         let cells = copied(row, a);
-        match self.step_both(moment, call, args, answer, row, a, w) {
+        match self.step_both(event, row, a, w) {
             Verdict::Taken => Ok(Verdict::Taken),
             Verdict::Refused => {
                 put_back(row, &cells, a);

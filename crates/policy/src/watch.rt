@@ -4,7 +4,7 @@ ghost use Rattle.model.specs.Watch.{begin_answer, begun_after, goes_on, judge_an
 
 use crate::Policy;
 use crate::calls::may_step;
-use model::{Moment, Refusal, Verdict};
+use model::{Event, Moment, Refusal, Verdict};
 
 // A watch over a policy. The row of cells is the caller's, the same for every call. Until it is
 // begun it refuses every event.
@@ -19,14 +19,7 @@ pub struct Watch<P> {
 fn goes_on(verdict: Verdict, moment: Moment) -> bool
     ensures { result ≡ goes_on verdict moment }
 {
-    match verdict {
-        Verdict::Taken => true,
-        Verdict::Refused => match moment {
-            Moment::Before => true,
-            Moment::After => false,
-            Moment::Raised => false,
-        },
-    }
+    verdict == Verdict::Taken || moment == Moment::Before
 }
 
 impl<P: Policy> Watch<P> {
@@ -53,24 +46,17 @@ impl<P: Policy> Watch<P> {
     }
 
     // Whether an event is taken; if it is, the row is stepped by it.
-    pub fn judge(
-        &mut self,
-        moment: Moment,
-        call: u8,
-        args: &[i32; 4],
-        answer: i32,
-        row: &mut [i32],
-    ) -> Result<Verdict, Refusal>
-        ensures answer { result ≡ judge_answer (P.meaning self.old.policy) (record { cells = row.old; begun = self.old.begun }) (record { moment = moment; call = call; args = args.now; answer = answer }) }
-        ensures watch { record { cells = row.new; begun = self.new.begun } ≡ judged_after (P.meaning self.old.policy) (record { cells = row.old; begun = self.old.begun }) (record { moment = moment; call = call; args = args.now; answer = answer }) }
+    pub fn judge(&mut self, event: &Event, row: &mut [i32]) -> Result<Verdict, Refusal>
+        ensures answer { result ≡ judge_answer (P.meaning self.old.policy) (record { cells = row.old; begun = self.old.begun }) event.now }
+        ensures watch { record { cells = row.new; begun = self.new.begun } ≡ judged_after (P.meaning self.old.policy) (record { cells = row.old; begun = self.old.begun }) event.now }
         ensures policy { self.new.policy ≡ self.old.policy }
     {
         if !self.begun {
-            may_step(call, self.policy.width(), row.len())?;
+            may_step(event.call, self.policy.width(), row.len())?;
             return Ok(Verdict::Refused);
         }
-        let verdict = self.policy.step(moment, call, args, answer, row)?;
-        self.begun = goes_on(verdict, moment);
+        let verdict = self.policy.step(event, row)?;
+        self.begun = goes_on(verdict, event.moment);
         Ok(verdict)
     }
 }

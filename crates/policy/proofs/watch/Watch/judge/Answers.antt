@@ -1,7 +1,5 @@
-use Rattle.std.proofs.Common.{◌≡◌, take, Err, refl, ap, ◌∙◌, w32, to_z, of_z}
-use Rattle.std.proofs.lemmas.Int.{to_z-of_z}
+use Rattle.std.proofs.Common.{◌≡◌, take, Err, refl, ap, ◌∙◌}
 use Rattle.std.proofs.lemmas.Result.{err_from_is_err_and}
-use Rattle.model.specs.Policy.{Event}
 use Rattle.policy.proofs.Asked.{step_refused, step_allowed}
 use Rattle.policy.proofs.Watched.{at, judge_refused, judge_begun, judge_unbegun}
 use Rattle.policy.proofs.watch.Watch.judge.Goals as goal
@@ -10,7 +8,7 @@ pub returns-in_err-may_step : goal.returns-in_err-may_step
 returns-in_err-may_step g c =
     let r = err_from_is_err_and c.from_residual.result c.from_residual.ensures.1 in
     let A = g.P.Policy.meaning c.args.self.now.policy in
-    let e : Event = record { moment = c.args.moment; call = c.args.call; args = c.args.args.now; answer = c.args.answer } in
+    let e = c.args.event.now in
     let s = step_refused A e c.args.row.now c.in_err-may_step.field-0.0 (rw c.width.ensures at c.in_err-may_step.ensures) in
     let h = judge_refused A e c.args.row.now c.args.self.now.begun c.in_err-may_step.field-0.0 c.args.row.now s.0 s.1 in
     record { answer = r.1 ∙ ap Err r.2 ∙ h.0; watch = h.1; policy = refl }
@@ -18,7 +16,7 @@ returns-in_err-may_step g c =
 pub returns-then-not-self : goal.returns-then-not-self
 returns-then-not-self g c =
     let A = g.P.Policy.meaning c.args.self.now.policy in
-    let e : Event = record { moment = c.args.moment; call = c.args.call; args = c.args.args.now; answer = c.args.answer } in
+    let e = c.args.event.now in
     let row = c.args.row.now in
     let s = step_allowed A e row (rw c.width.ensures at c.in_ok-may_step.ensures) in
     let h = judge_unbegun A e row c.args.self.now.begun _ c.if-not-self.true (s.answer (A.step e (take A.width row)) refl) in
@@ -28,17 +26,15 @@ pub returns-in_err-verdict : goal.returns-in_err-verdict
 returns-in_err-verdict g c =
     let r = err_from_is_err_and c.from_residual-in_err-verdict.result c.from_residual-in_err-verdict.ensures.1 in
     let A = g.P.Policy.meaning c.args.self.now.policy in
-    let z : to_z w32 (of_z w32 c.args.answer) ≡ c.args.answer = to_z-of_z w32 c.args.answer c.ranges.answer in
-    let e : Event = record { moment = c.args.moment; call = c.args.call; args = c.args.args.now; answer = c.args.answer } in
+    let e = c.args.event.now in
     let h = judge_refused A e c.args.row.now c.args.self.now.begun c.in_err-verdict.field-0.0 c.step.new.row
-    (rw z at c.in_err-verdict.ensures.answer) (rw z at c.step.ensures.row) in
+    c.in_err-verdict.ensures.answer c.step.ensures.row in
     record { answer = r.1 ∙ ap Err r.2 ∙ h.0; watch = h.1; policy = refl }
 
 pub returns : goal.returns
 returns g c =
     let A = g.P.Policy.meaning c.args.self.now.policy in
-    let z : to_z w32 (of_z w32 c.args.answer) ≡ c.args.answer = to_z-of_z w32 c.args.answer c.ranges.answer in
-    let e : Event = record { moment = c.args.moment; call = c.args.call; args = c.args.args.now; answer = c.args.answer } in
+    let e = c.args.event.now in
     let h = judge_begun A e c.args.row.now c.args.self.now.begun c.in_ok-verdict.verdict c.step.new.row c.if-not-self.false
-    (rw z at c.in_ok-verdict.ensures.answer) (rw z at c.step.ensures.row) in
+    c.in_ok-verdict.ensures.answer c.step.ensures.row in
     record { answer = h.0; watch = ap (at c.step.new.row) c.goes_on-self.ensures ∙ h.1; policy = refl }

@@ -1,0 +1,9 @@
+use Rattle.std.proofs.Common.{rules}
+use Rattle.std.proofs.lemmas.Int.{wraps}
+use Rattle.model.proofs.Operator.apply.Goals as goal
+
+pub returns-in-Plus : goal.returns-in-Plus
+returns-in-Plus c = search (rules, wraps)
+
+pub returns-in-Minus : goal.returns-in-Minus
+returns-in-Minus c = search (rules, wraps)
