@@ -16,7 +16,7 @@ use Rattle.model.specs.Rules.{update_bytes, rule_bytes, write_rules, ValidToken,
 use Rattle.model.proofs.Words.{high_word, low_word, length_flat, flat_quads}
 use Rattle.model.specs.Moments.{moment_number, moment_of}
 use Rattle.model.proofs.Moments.{moment_there}
-use Rattle.model.proofs.Options.{none_some}
+use Rattle.std.proofs.lemmas.Option.{none-some}
 use Rattle.model.proofs.Accepted.{ByteField, starts_signed, err_ok, bound, needed, within_true, every_true, met, whole_quads, starts_is, two_bytes}
 use Rattle.model.specs.declared.Refusal.TheVariants.{BadPolicyField, BadExpression}
 use Rattle.model.specs.Words.{operator_of}
@@ -122,7 +122,7 @@ table_accepted f t e =
 -- rules
 some_if : {A : Type 0} (b : Bool) (x y : A) → cond b (Some x) None ≡ Some y → (b ≡ true) × (x ≡ y)
 some_if true x y e = (refl, cc)
-some_if false x y e = absurd (none_some e)
+some_if false x y e = absurd (none-some _ e)
 
 token_is : (n a k y : ℕ) (t : Token) → token n a k y ≡ Some t → (y < 65536 → token_bytes t ≡ k ∷ high y ∷ low y ∷ []) × ValidToken n a t
 token_is n a zero y t e = let z : constant (to_z w16 y) ≡ t = cc in rw (← z)
@@ -131,17 +131,17 @@ token_is n a (suc zero) y t e = let s = some_if (ltb y n) (cell y) t e in rw (�
 token_is n a (suc (suc zero)) y t e = let s = some_if (ltb y a) (argument y) t e in rw (← s.1) (λ h. refl, ltb-true y a s.0)
 token_is n a (suc (suc (suc zero))) y t e = let s = some_if (leb y 5) (operator (operator_of y)) t e in let l = leb-true y 5 s.0 in rw (← s.1)
     (λ h. ap {B = List ℕ} (λ v. 3 ∷ high v ∷ low v ∷ []) (operator_there y (omega arith)), tt)
-token_is n a (suc (suc (suc (suc k)))) y t e = absurd (none_some e)
+token_is n a (suc (suc (suc (suc k)))) y t e = absurd (none-some _ e)
 
 both_is : (o : Option Token) (u : Option Expr) (e : Expr) → both o u ≡ Some e → (t : Token) × (ts : Expr) × (o ≡ Some t) × (u ≡ Some ts) × (t ∷ ts ≡ e)
-both_is None u e h = absurd (none_some h)
-both_is (Some t) None e h = absurd (none_some h)
+both_is None u e h = absurd (none-some _ h)
+both_is (Some t) None e h = absurd (none-some _ h)
 both_is (Some t) (Some ts) e h = (t, ts, refl, refl, cc)
 
 tokens_is : (n a : ℕ) (c : List ℕ) (e : Expr) → tokens n a c ≡ Some e → (Bytes c → expr_bytes e ≡ c) × (length c ≡ 3 * length e) × AllByRecursion (ValidToken n a) e
 tokens_is n a [] e h = let z : [] ≡ e = cc in rw (← z) (λ b. refl, refl, tt)
-tokens_is n a (k ∷ []) e h = absurd (none_some h)
-tokens_is n a (k ∷ x ∷ []) e h = absurd (none_some h)
+tokens_is n a (k ∷ []) e h = absurd (none-some _ h)
+tokens_is n a (k ∷ x ∷ []) e h = absurd (none-some _ h)
 tokens_is n a (k ∷ x ∷ y ∷ r) e h =
     let s = both_is _ _ _ h in
     let t = token_is n a k (word x y) s.0 s.2 in

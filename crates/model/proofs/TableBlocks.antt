@@ -9,7 +9,7 @@ use Rattle.model.specs.declared.Test.TheVariants.{Skip, Skz, Mset, Mcell, Store,
 use Rattle.model.specs.Policy.{Showing, exec, reached, stopped, Ran, End, end, due, eqZ, flag}
 use Rattle.model.specs.Tables.{Row, Table, row_for, row_of, moved_to, from, by_row, has_row, table_automaton, states_block, row_block, table_block}
 use Rattle.model.specs.Tables.{ValidRow, ValidTable}
-use Rattle.model.proofs.Options.{none_some}
+use Rattle.std.proofs.lemmas.Option.{none-some}
 use Rattle.std.proofs.ByRecursion.{All-weaker}
 use Rattle.model.proofs.Tidy.{Tidy, tidy_formed, tidy_enclosed, tidy_states}
 use Rattle.model.proofs.BlockRuns.{skip_all, skz, getD_own, set_own}
@@ -103,8 +103,8 @@ keeps_row c (Some ns) d e = go (get_or c 0 (pos 0)) e
   where
     go : (z : ℤ) → from c ns z ≡ Some d → length d ≡ length c
     go (pos v) e = cond_both (eqb (get_or ns v 255) 255) None (Some (set c 0 (pos (get_or ns v 255)))) (λ x. x ≡ Some d → length d ≡ length c)
-        (λ t q. absurd (none_some q)) (λ t q. let z : set c 0 (pos (get_or ns v 255)) ≡ d = cc in ap length (sym z) ∙ length-set c 0 (pos (get_or ns v 255))) e
-    go (negsuc v) e = absurd (none_some e)
+        (λ t q. absurd (none-some _ q)) (λ t q. let z : set c 0 (pos (get_or ns v 255)) ≡ d = cc in ap length (sym z) ∙ length-set c 0 (pos (get_or ns v 255))) e
+    go (negsuc v) e = absurd (none-some _ e)
 
 no_row : (k : ℕ) (t : Moment) (rs : List Row) → has_row k rs ≡ false → row_of rs k t ≡ None
 no_row k t [] h = refl
@@ -129,7 +129,7 @@ placed_row f g None = refl
 placed_row f g (Some ns) = states_placed f g 0 ns
 
 row_within : (n k : ℕ) (t : Moment) (rs : List Row) (ns : List ℕ) → AllByRecursion (ValidRow n) rs → row_of rs k t ≡ Some ns → (length ns ≡ n) × AllByRecursion (λ q. (q < n) ⊎ (q ≡ 255)) ns
-row_within n k t [] ns h e = absurd (none_some e)
+row_within n k t [] ns h e = absurd (none-some _ e)
 row_within n k t (r ∷ rs) ns h e =
     cond_both (row_for k t r) (Some r.nexts) (row_of rs k t) (λ x. x ≡ Some ns → (length ns ≡ n) × AllByRecursion (λ q. (q < n) ⊎ (q ≡ 255)) ns)
     (λ y q. let z : r.nexts ≡ ns = cc in rw (← z) (h.0.1, h.0.2)) (λ y q. row_within n k t rs ns h.1 q) e

@@ -9,7 +9,8 @@ use Rattle.model.specs.declared.Operator.TheVariants.{Plus, Minus, Less, Equal, 
 use Rattle.model.specs.declared.Own.{Own}
 use Rattle.model.specs.declared.Test.{Test}
 use Rattle.model.specs.declared.Instr.{Instr}
-use Rattle.model.proofs.Options.{none_some, some_same}
+use Rattle.std.proofs.lemmas.Option.{none-some}
+use Rattle.model.proofs.Options.{some_same}
 use Rattle.model.specs.Words.{word, high, low, Quad, flat, quads, signed_of, quad_of, Entry, limit, table, find, word_of, encode, fits, made, decode}
 use Rattle.model.specs.Words.{operator_number, operator_of, Ranged, entry_of, same}
 
@@ -85,7 +86,7 @@ writes =
 
 -- what a look-up finds is in the list, under that opcode
 pub found : (P : Entry → Type 0) (o : ℕ) (es : List Entry) (e : Entry) → AllByRecursion P es → find o es ≡ Some e → P e × (o ≡ e.op)
-found P o [] e h p = absurd (none_some p)
+found P o [] e h p = absurd (none-some _ p)
 found P o (c ∷ cs) e h p = cond_both (eqb o c.op) (Some c) (find o cs) (λ r. r ≡ Some e → P e × (o ≡ e.op))
     (λ t q. let z : c ≡ e = cc in rw (← z) (h.0, eqb-true o c.op t)) (λ t q. found P o cs e h.1 q) p
 
@@ -113,10 +114,10 @@ module _ (n : ℕ) (q : Quad) (i : Instr) where
       )
 
   decoded_by : (o : Option Entry) → find q.a table ≡ o → made n q.b (word q.c q.d) o ≡ Some i → Decoded
-  decoded_by None f r = absurd (none_some r)
+  decoded_by None f r = absurd (none-some _ r)
   decoded_by (Some e) f r =
       cond_both (fits n e q.b (word q.c q.d)) (Some (e.make q.b (word q.c q.d))) None (λ r. r ≡ Some i → Decoded)
-      (decoded_at e f) (λ t r. absurd (none_some r)) r
+      (decoded_at e f) (λ t r. absurd (none-some _ r)) r
 
   pub decoded : decode n q ≡ Some i → (q.d < 256 → encode i ≡ q) × Ranged n i
   unfolding decode
