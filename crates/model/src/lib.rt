@@ -3,6 +3,7 @@
 #![tactic(auto)]
 
 ghost use Rattle.std.specs.Prelude.{◌≡◌};
+ghost use Rattle.model.specs.Machine.{reason_number};
 ghost use Rattle.model.specs.Examples.{Worked};
 ghost use Rattle.model.specs.RefusedFiles.{Refused, Listed};
 
@@ -102,7 +103,8 @@ pub enum Status {
     Ended,
 }
 
-// The host's answer to a call: normal, or raised.
+// The host's answer to a call: normal, or raised. No `Result`: a raised answer is no fault of the
+// call, and `?` would pass it on.
 #[derive(Clone, Copy, PartialEq, Eq, Debug)]
 pub enum Reply {
     Normal(i32),
@@ -116,6 +118,15 @@ pub enum Reason {
     Finished,
     TooDeep,
     NotHolder,
+}
+
+impl Reason {
+    // The reason's number: 0, 1 or 2.
+    pub fn number(&self) -> u8
+        ensures { result ≡ reason_number self.now }
+    {
+        *self as u8
+    }
 }
 
 // What a step says: it moved on, handed out a call with its arguments, ended, or the machine stops.

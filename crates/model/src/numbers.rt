@@ -1,12 +1,11 @@
-// Numbers of refusals, moments, reasons and operators, and what an operator makes of two numbers.
+// Numbers of refusals, moments and operators, and what an operator makes of two numbers.
 ghost use Rattle.std.specs.Prelude.{◌≡◌};
 ghost use Rattle.model.specs.Refusals.{number, location, place};
 ghost use Rattle.model.specs.Moments.{moment_number, moment_of};
 ghost use Rattle.model.specs.Words.{operator_of};
 ghost use Rattle.model.specs.Policy.{operate};
-ghost use Rattle.model.specs.Machine.{reason_number};
 
-use crate::{Moment, Operator, Reason, Refusal};
+use crate::{Moment, Operator, Refusal};
 
 impl Refusal {
     // The refusal's number.
@@ -127,14 +126,5 @@ impl From<u8> for Moment {
             1 => Moment::After,
             _ => Moment::Raised,
         }
-    }
-}
-
-impl Reason {
-    // The reason's number: 0, 1 or 2.
-    pub fn number(&self) -> u8
-        ensures { result ≡ reason_number self.now }
-    {
-        *self as u8
     }
 }
