@@ -3,7 +3,8 @@ ghost use Rattle.std.specs.Prelude.{◌≡◌, length, nat_le};
 ghost use Rattle.model.specs.Fields.{standing, behind};
 ghost use Rattle.tlv.specs.Parts.{stood, due_stood, due, part_tag, part_contents, MadePart};
 
-// The kinds of field that files have, each with its contents as a part of the file.
+// The kinds of field that files have, each with its contents as a part of the file: so that a `match`
+// has both at hand, where a struct of kind and contents would be matched by `(f.kind, f.contents)`.
 #[derive(Clone, Copy)]
 pub enum Part<'a> {
     // applets
@@ -44,6 +45,8 @@ pub struct Fields<'a> {
 }
 
 impl<'a> Part<'a> {
+    // Tags are bytes, as `new` and `due` take any byte: an enum of tags would need `TryFrom<u8>` beside
+    // `new`, and `Tag::Head as u8` where `Part::HEAD` stands.
     pub const HEAD: u8 = 1;
 
     pub const ENTRIES: u8 = 2;
@@ -110,17 +113,17 @@ impl<'a> Part<'a> {
         ensures { result.now ≡ part_contents self.now }
     {
         match *self {
-            Part::Head(c) => c,
-            Part::Entries(c) => c,
-            Part::Cells(c) => c,
-            Part::Method(c) => c,
-            Part::RulesHead(c) => c,
-            Part::RulesStarts(c) => c,
-            Part::Rule(c) => c,
-            Part::Guard(c) => c,
-            Part::Update(c) => c,
-            Part::TableHead(c) => c,
-            Part::TableRow(c) => c,
+            Part::Head(c)
+            | Part::Entries(c)
+            | Part::Cells(c)
+            | Part::Method(c)
+            | Part::RulesHead(c)
+            | Part::RulesStarts(c)
+            | Part::Rule(c)
+            | Part::Guard(c)
+            | Part::Update(c)
+            | Part::TableHead(c)
+            | Part::TableRow(c) => c,
         }
     }
 }
@@ -155,24 +158,18 @@ impl<'a> Fields<'a> {
         ensures holder { self.new.holder.now ≡ self.old.holder.now }
         ensures at { self.new.at ≡ behind self.old.at (standing self.old.holder.now self.old.at) }
     {
-        let holder = self.holder;
-        let at = self.at;
-        let size = holder.len();
-        if at >= size {
-            return Ok(None);
+        let place = self.at;
+        match self.holder.get(place..).unwrap_or(&[]) {
+            [] => Ok(None),
+            [tag, high, low, rest @ ..] => {
+                let size = usize::from(u16::from_be_bytes([*high, *low]));
+                let contents = rest.get(..size).ok_or(Fault { place })?;
+                let part = Part::new(*tag, contents).ok_or(Fault { place })?;
+                self.at = place + 3 + size;
+                Ok(Some(Field { place, part }))
+            }
+            _ => Err(Fault { place }),
         }
-        if size - at < 3 {
-            return Err(Fault { place: at });
-        }
-        let n = holder[at + 1] as usize * 256 + holder[at + 2] as usize;
-        if size - at - 3 < n {
-            return Err(Fault { place: at });
-        }
-        let Some(part) = Part::new(holder[at], &holder[at + 3..at + 3 + n]) else {
-            return Err(Fault { place: at });
-        };
-        self.at = at + 3 + n;
-        Ok(Some(Field { place: at, part }))
     }
 
     // The contents of the next field, which is to be of this tag.
