@@ -3,12 +3,10 @@ use Rattle.std.proofs.Common.{◌≡◌, ℕ, ◌%◌, ◌<◌, Bool, true, fals
 use Rattle.std.specs.List.{AllByRecursion}
 use Rattle.std.specs.Option.{option_map}
 use Rattle.std.proofs.lemmas.Bool.{ltb-true, and_parts}
-use Rattle.model.specs.declared.Own.{Own}
-use Rattle.model.specs.declared.Test.{Test}
 use Rattle.model.specs.declared.Instr.{Instr}
 use Rattle.model.specs.declared.Refusal.{Refusal}
 use Rattle.model.specs.declared.Refusal.TheVariants.{BadInstruction, BadLanding}
-use Rattle.model.specs.Words.{word, Quad, Entry, operator_of, limit, table, find, made, decode, fits, lands, lands_by, word_of}
+use Rattle.model.specs.Words.{word, Quad, Entry, limit, table, find, made, decode, fits, lands, lands_by, word_of}
 use Rattle.model.specs.Fields.{refuse}
 use Rattle.model.specs.Reading.{landed}
 use Rattle.model.proofs.Words.{found, Writes, writes}
@@ -26,88 +24,16 @@ small f y h = ap f (omega arith)
 
 builds : AllByRecursion Builds table
 unfolding table
-builds = (
-  λ n x y s h. refl,
-  (
-    λ n x y s h. small (λ v. Some (Instr.Own (Own.Mov x v))) y (omega arith),
-    (
-      λ n x y s h. small (λ v. Some (Instr.Own (Own.Add x v))) y (omega arith),
-      (
-        λ n x y s h. small (λ v. Some (Instr.Own (Own.Sub x v))) y (omega arith),
-        (
-          λ n x y s h. small (λ v. Some (Instr.Own (Own.Lt x v))) y (omega arith),
-          (
-            λ n x y s h. small (λ v. Some (Instr.Own (Own.Eq x v))) y (omega arith),
-            (
-              λ n x y s h. small (λ v. Some (Instr.Own (Own.Get x v))) y (omega arith),
-              (
-                λ n x y s h. small (λ v. Some (Instr.Own (Own.Put x v))) y (omega arith),
-                (
-                  λ n x y s h. refl,
-                  (
-                    λ n x y s h. refl,
-                    (
-                      λ n x y s h. small (λ v. Some (Instr.Own (Own.Call v))) y (omega arith),
-                      (
-                        λ n x y s h. refl,
-                        (
-                          λ n x y s h. refl,
-                          (
-                            λ n x y s h. refl,
-                            (
-                              λ n x y s h. refl,
-                              (
-                                λ n x y s h. refl,
-                                (
-                                  λ n x y s h. refl,
-                                  (
-                                    λ n x y s h. refl,
-                                    (
-                                      λ n x y s h. refl,
-                                      (
-                                        λ n x y s h. refl,
-                                        (
-                                          λ n x y s h. small (λ v. Some (Instr.Test (Test.Mcell x v))) y (omega arith),
-                                          (
-                                            λ n x y s h. small (λ v. Some (Instr.Test (Test.Marg x v))) y (omega arith),
-                                            (
-                                              λ n x y s h. small (λ v. Some (Instr.Test (Test.Store x v))) y (omega arith),
-                                              (
-                                                λ n x y s h. small (λ v. Some (Instr.Test (Test.Op x (operator_of v)))) y (omega arith),
-                                                tt,
-                                              ),
-                                            ),
-                                          ),
-                                        ),
-                                      ),
-                                    ),
-                                  ),
-                                ),
-                              ),
-                            ),
-                          ),
-                        ),
-                      ),
-                    ),
-                  ),
-                ),
-              ),
-            ),
-          ),
-        ),
-      ),
-    ),
-  ),
-)
+builds = search (arith, small)
 
 -- the entry behind a row
 from_row : (o : Option Entry) (r : Row) → Some r ≡ option_map ranges o → (e : Entry) × (o ≡ Some e) × (ranges e ≡ r)
-from_row None r h = absurd (let z : ◌≡◌ {A = ℕ} 0 1 = cc in omega arith)
+from_row None r h = absurd cc
 from_row (Some e) r h = (e, refl, cc)
 
 none_row : (o : Option Entry) → None ≡ option_map ranges o → o ≡ None
 none_row None h = refl
-none_row (Some e) h = absurd (let z : ◌≡◌ {A = ℕ} 0 1 = cc in omega arith)
+none_row (Some e) h = absurd cc
 
 module _ (n : ℕ) (q : Quad) where
   -- no row

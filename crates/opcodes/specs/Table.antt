@@ -2,6 +2,7 @@
 use Rattle.std.specs.Prelude.{ℕ, Bool, false, ◌&&◌, nat_lt}
 use Rattle.opcodes.specs.declared.table.Kind.{Kind}
 use Rattle.opcodes.specs.declared.table.Kind.TheVariants.{Dash, Register, Shared, Scratch, Cell, Call, Argument, Operator, Signed, Target, Count, Method}
+use Rattle.opcodes.specs.declared.table.Operand.{Operand}
 use Rattle.opcodes.specs.declared.table.Entry.{Entry}
 use Rattle.model.specs.Words as words
 
@@ -26,6 +27,10 @@ operand Signed l = words.Operand.signed
 operand Target l = words.Operand.target
 operand Count l = words.Operand.count
 operand Method l = words.Operand.method
+
+-- an opcode with its operands, as the code's table lists it
+abbrev pub listed : (ℕ × Operand × Operand × Bool) → Entry
+listed r = record { op = r.0; x = r.1; y = r.2; falls = r.3 }
 
 -- a row of the code's table
 abbrev pub row : Entry → Row

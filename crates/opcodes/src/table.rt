@@ -2,7 +2,7 @@
 ghost use Rattle.std.specs.Prelude.{◌≡◌, map};
 ghost use Rattle.std.specs.Option.{option_map};
 ghost use Rattle.model.specs.Words.{find, table};
-ghost use Rattle.opcodes.specs.Table.{row, ranges};
+ghost use Rattle.opcodes.specs.Table.{row, listed, ranges};
 
 // What an operand names.
 #[derive(Clone, Copy)]
@@ -22,7 +22,8 @@ pub enum Kind {
 }
 
 // What an operand may be: of its kind, and below its limit. A method is also below the number of
-// methods, and where a target or a count leads lies in the method.
+// methods, and where a target or a count leads lies in the method. The limit stands beside the kind,
+// as one kind has two: a scratch number is below 8, the first of a pair below 7.
 #[derive(Clone, Copy)]
 pub struct Operand {
     pub kind: Kind,
@@ -104,157 +105,37 @@ const METHOD: Operand = Operand {
     limit: 65536,
 };
 
-// 01 to 0E, then 20 to 29.
-static TABLE: [Entry; 24] = [
-    Entry {
-        op: 0x01,
-        x: REGISTER,
-        y: SIGNED,
-        falls: true,
-    },
-    Entry {
-        op: 0x02,
-        x: REGISTER,
-        y: REGISTER,
-        falls: true,
-    },
-    Entry {
-        op: 0x03,
-        x: REGISTER,
-        y: REGISTER,
-        falls: true,
-    },
-    Entry {
-        op: 0x04,
-        x: REGISTER,
-        y: REGISTER,
-        falls: true,
-    },
-    Entry {
-        op: 0x05,
-        x: REGISTER,
-        y: REGISTER,
-        falls: true,
-    },
-    Entry {
-        op: 0x06,
-        x: REGISTER,
-        y: REGISTER,
-        falls: true,
-    },
-    Entry {
-        op: 0x07,
-        x: REGISTER,
-        y: SHARED,
-        falls: true,
-    },
-    Entry {
-        op: 0x08,
-        x: REGISTER,
-        y: SHARED,
-        falls: true,
-    },
-    Entry {
-        op: 0x09,
-        x: DASH,
-        y: TARGET,
-        falls: false,
-    },
-    Entry {
-        op: 0x0a,
-        x: REGISTER,
-        y: TARGET,
-        falls: true,
-    },
-    Entry {
-        op: 0x0b,
-        x: DASH,
-        y: METHOD,
-        falls: true,
-    },
-    Entry {
-        op: 0x0c,
-        x: DASH,
-        y: DASH,
-        falls: false,
-    },
-    Entry {
-        op: 0x0d,
-        x: CALL,
-        y: TARGET,
-        falls: true,
-    },
-    Entry {
-        op: 0x0e,
-        x: DASH,
-        y: DASH,
-        falls: false,
-    },
-    Entry {
-        op: 0x20,
-        x: CALL,
-        y: DASH,
-        falls: true,
-    },
-    Entry {
-        op: 0x21,
-        x: DASH,
-        y: DASH,
-        falls: true,
-    },
-    Entry {
-        op: 0x22,
-        x: DASH,
-        y: COUNT,
-        falls: true,
-    },
-    Entry {
-        op: 0x23,
-        x: SCRATCH,
-        y: COUNT,
-        falls: true,
-    },
-    Entry {
-        op: 0x24,
-        x: DASH,
-        y: DASH,
-        falls: true,
-    },
-    Entry {
-        op: 0x25,
-        x: SCRATCH,
-        y: SIGNED,
-        falls: true,
-    },
-    Entry {
-        op: 0x26,
-        x: SCRATCH,
-        y: CELL,
-        falls: true,
-    },
-    Entry {
-        op: 0x27,
-        x: SCRATCH,
-        y: ARGUMENT,
-        falls: true,
-    },
-    Entry {
-        op: 0x28,
-        x: SCRATCH,
-        y: CELL,
-        falls: true,
-    },
-    Entry {
-        op: 0x29,
-        x: SCRATCH_PAIR,
-        y: OPERATOR,
-        falls: true,
-    },
+// 01 to 0E, then 20 to 29: opcodes with x and y, and whether a thread may go on behind them.
+static TABLE: [(u8, Operand, Operand, bool); 24] = [
+    (0x01, REGISTER, SIGNED, true),
+    (0x02, REGISTER, REGISTER, true),
+    (0x03, REGISTER, REGISTER, true),
+    (0x04, REGISTER, REGISTER, true),
+    (0x05, REGISTER, REGISTER, true),
+    (0x06, REGISTER, REGISTER, true),
+    (0x07, REGISTER, SHARED, true),
+    (0x08, REGISTER, SHARED, true),
+    (0x09, DASH, TARGET, false),
+    (0x0a, REGISTER, TARGET, true),
+    (0x0b, DASH, METHOD, true),
+    (0x0c, DASH, DASH, false),
+    (0x0d, CALL, TARGET, true),
+    (0x0e, DASH, DASH, false),
+    (0x20, CALL, DASH, true),
+    (0x21, DASH, DASH, true),
+    (0x22, DASH, COUNT, true),
+    (0x23, SCRATCH, COUNT, true),
+    (0x24, DASH, DASH, true),
+    (0x25, SCRATCH, SIGNED, true),
+    (0x26, SCRATCH, CELL, true),
+    (0x27, SCRATCH, ARGUMENT, true),
+    (0x28, SCRATCH, CELL, true),
+    (0x29, SCRATCH_PAIR, OPERATOR, true),
 ];
 
 // The rows, which are those of the list of opcodes.
-fn rows() -> &'static [Entry; 24]
-    ensures { map row result.now ≡ map ranges table }
+fn rows() -> &'static [(u8, Operand, Operand, bool); 24]
+    ensures { map (λ r. row (listed r)) result.now ≡ map ranges table }
 {
     &TABLE
 }
@@ -263,10 +144,11 @@ fn rows() -> &'static [Entry; 24]
 pub fn look_up(op: u8) -> Option<Entry>
     ensures { option_map row result ≡ option_map ranges (find op table) }
 {
-    let all = rows();
-    match op {
-        0x01..=0x0e => Some(all[op as usize - 0x01]),
-        0x20..=0x29 => Some(all[op as usize - 0x20 + 14]),
-        _ => None,
-    }
+    let index = match op {
+        0x01..=0x0e => op - 0x01,
+        0x20..=0x29 => op - 0x20 + 14,
+        _ => return None,
+    };
+    let (op, x, y, falls) = rows()[usize::from(index)];
+    Some(Entry { op, x, y, falls })
 }
