@@ -80,7 +80,7 @@ module _ (f : List ℕ) (tag p : ℕ) (known : a_tag tag ≡ true) where
   by_tests b₁ b₂ b₃ b₄ = cond b₁ nothing (cond b₂ (broken p) (cond b₃ (broken p) (cond b₄ (found (get_or f p 0) p (contents_at f p)) (broken p))))
 
   never : (q : ℕ) (c : List ℕ) (G : Type 0) → missing q ≡ contents c → G
-  never q c G e = absurd (let z : ◌≡◌ {A = ℕ} 0 1 = cc in omega arith)
+  never q c G e = absurd cc
 
   is_found : (c : List ℕ) (e : Bool) → cond e (contents (contents_at f p)) (missing p) ≡ contents c → contents_at f p ≡ c
   is_found c true h = cc

@@ -1,5 +1,8 @@
 -- What passes the quick test of an instruction reads.
-use Rattle.std.proofs.Common.{◌≡◌, ℕ, zero, suc, ◌<◌, List, length, get_or, set, replicate, Some, sym, refl, ap, ◌∙◌, subst, ⊎_elim, arith, get_or-set_other, get_or-set_same}
+use Rattle.std.proofs.Common.{◌≡◌, ℕ, zero, suc, ◌+◌, ◌<◌, ◌≤◌, List, get_or, Some, sym, refl, ap, ◌∙◌, subst, ⊎_elim, arith}
+use denote.Param.Members.{Mut}
+use Rattle.std.specs.Array.{IsFromFnResult, IsFromFnResultFrom}
+use Rattle.std.specs.Fn.{Called}
 use Rattle.std.proofs.lemmas.Bool.{cases_eq}
 use Rattle.std.specs.Option.{option_map}
 use Rattle.model.specs.Words.{word, find, table}
@@ -19,20 +22,16 @@ seen_row n op r g h s q i size p e b w x y l z =
     let f : Some r ≡ option_map ranges (find q.a table) = h ∙ ap (λ o. option_map ranges (find o table)) (sym e) in
     sym (judged_row n q size i p r f) ∙ rw (k.0, k.1)
 
--- at the start all tests are blind
-pub all_blind : (k n : ℕ) (op : ℕ) → Seen n op (get_or (replicate k blind) op blind)
-all_blind zero n op = seen_blind n op
-all_blind (suc k) n zero = seen_blind n zero
-all_blind (suc k) n (suc op) = subst (Seen n (suc op)) (still k op) (seen_blind n (suc op))
-  where
-    still : (k op : ℕ) → blind ≡ get_or (replicate k blind) op blind
-    still zero op = refl
-    still (suc k) zero = refl
-    still (suc k) (suc op) = still k op
+-- what each call gives holds of the element that was made of it, where no call changes the closure
+module _ {F B : Type 0} {g : Mut F (ℕ × Unit {0}) B} (P : ℕ → B → Type 0) (n : ℕ) (f : F) (ys : List B) (d : B)
+    (gives : (i : ℕ) (q : F) (y : B) → i < n → Called g f (i, tt) y q → (q ≡ f) × P i y) where
+  made_from : (m i : ℕ) (p : F) → p ≡ f → i + m ≡ n → IsFromFnResultFrom g p ys i m → (k : ℕ) → i ≤ k → k < n → P k (get_or ys k d)
+  made_from zero i p e z h k a b = absurd (omega arith)
+  made_from (suc m) i p e z (q, y, at, call, rest) k a b =
+      let w = gives i q y (omega arith) (subst (λ (x : F). Called g x (i, tt) y q) e call) in
+      ⊎_elim
+      (λ s. subst (λ (j : ℕ). P j (get_or ys j d)) (sym s) (subst (P i) (sym (at.1 d)) w.1))
+      (λ s. made_from m (i + 1) q w.0 (omega arith) rest k (omega arith) b) (cases_eq k i)
 
--- one test more
-pub one_seen : (n : ℕ) (gs : List Glance) (i : ℕ) (g : Glance) → i < length gs → ((op : ℕ) → Seen n op (get_or gs op blind)) → Seen n i g →
-    (op : ℕ) → Seen n op (get_or (set gs i g) op blind)
-one_seen n gs i g l h s op = ⊎_elim
-    (λ e. subst (λ (k : ℕ). Seen n k (get_or (set gs i g) k blind)) (sym e) (subst (Seen n i) (sym (get_or-set_same gs i g blind l)) s))
-    (λ e. subst (Seen n op) (sym (get_or-set_other gs i op g blind e)) (h op)) (cases_eq op i)
+  pub made : IsFromFnResult g f ys n → (k : ℕ) → k < n → P k (get_or ys k d)
+  made h k b = made_from n 0 f refl (omega arith) h.each k (omega arith) b

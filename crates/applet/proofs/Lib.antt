@@ -5,5 +5,3 @@ pub mod Expected
 pub mod Staging
 -- the quick test of an instruction
 pub mod Glancing
--- four bytes of a method's code
-pub mod Quads

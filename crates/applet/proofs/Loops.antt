@@ -1,72 +1,51 @@
 -- What the reader's loops keep, over plain lists.
-use Rattle.std.proofs.Common.{◌≡◌, ℕ, zero, suc, ◌+◌, ◌-◌, ◌*◌, ◌/◌, ◌<◌, ◌≤◌, min, Bool, true, false, ◌&&◌, ltb, leb, ◌≢◌, List, [], ◌∷◌, ◌++◌, map, length, get_or, take, drop, set, Some, None, Ok, Err, sym, refl, ap, ◌∙◌, ap₂, append_assoc, append-nil, suc-add, add-one, arith, length-drop, length-take, take_all, get_or-set_other, get_or-set_same, take-suc-set, below_more}
-use lib.Seq.{take-nil}
-use Rattle.std.proofs.lemmas.List.{at_drop_more, at_drop_all, drop_all}
-use Rattle.std.proofs.lemmas.Bool.{lt-ltb, le-ltb, leb-true, leb-false}
+use Rattle.std.proofs.Common.{◌≡◌, ℕ, zero, suc, ◌+◌, ◌-◌, ◌*◌, ◌/◌, ◌<◌, ◌≤◌, min, Bool, true, false, ◌&&◌, leb, List, [], ◌∷◌, ◌++◌, map, length, get_or, take, drop, Some, None, Ok, Err, Result, sym, refl, ap, ◌∙◌, ap₂, append_assoc, suc-add, arith, length-drop, take_all}
+use lib.ListN.{length-map}
+use Rattle.std.specs.List.{list_all}
+use Rattle.std.specs.Result.{IsErrAnd}
+use Rattle.std.specs.Simd.{first_chunks}
+use Rattle.std.proofs.Math.ListN.{get_or-map}
+use Rattle.std.proofs.lemmas.List.{at_drop_more, at_drop_all, drop-drop, get_or-drop}
+use Rattle.std.proofs.lemmas.Bool.{leb-true, leb-false}
 use Rattle.model.specs.declared.Refusal.{Refusal}
-use Rattle.model.specs.declared.Refusal.TheVariants.{BadField}
-use Rattle.model.specs.Fields.{Bytes, Read, every, standing, behind}
+use Rattle.model.specs.Fields.{Bytes, Read, every, standing, behind, contents_at}
 use Rattle.model.specs.declared.Instr.{Instr}
-use Rattle.model.specs.Words.{Quad, quads, quad_at, decode}
+use Rattle.model.specs.Words.{Quad, quads, quad_at, decode, signed_of}
 use Rattle.model.specs.Reading.{landed}
 use Rattle.model.proofs.Accepted.{err_ok}
 use Rattle.applet.specs.Applets.{nth}
 use Rattle.opcodes.specs.Judging.{passed}
-use Rattle.applet.specs.Stages.{gathered, places_from, one_more, method_of, due_at, ended, judged, code_judged, codes_judged, both_pass}
+use Rattle.applet.specs.Stages.{gathered, places_from, one_more, method_of, due_at, judged}
 
--- all bytes below n: the test goes on, stops, or has ended
-module _ (n : ℕ) (xs : List ℕ) (i : ℕ) where
-  abbrev below : List ℕ → Bool
-  below = every (λ e. ltb e n)
+-- what a `?` hands on
+pub failed : {A E : Type 0} (r : Result A E) (x : E) → IsErrAnd r (λ y. y ≡ x) → r ≡ Err x
+failed (Ok a) x h = absurd h
+failed (Err y) x h = ap Err h
 
-  pub below_goes : i < length xs → get_or xs i 0 < n → below (drop i xs) ≡ below xs → below (drop (i + 1) xs) ≡ below xs
-  below_goes h l e =
-      let w : below (drop i xs) ≡ ltb (get_or xs i 0) n && below (drop (i + 1) xs) = at_drop_more below xs i 0 h in
-      let z = lt-ltb (get_or xs i 0) n l in
-      sym (rw z at w) ∙ e
-
-  pub below_stops : i < length xs → n ≤ get_or xs i 0 → below (drop i xs) ≡ below xs → false ≡ below xs
-  below_stops h l e =
-      let w : below (drop i xs) ≡ ltb (get_or xs i 0) n && below (drop (i + 1) xs) = at_drop_more below xs i 0 h in
-      let z : ltb (get_or xs i 0) n ≡ false = le-ltb (get_or xs i 0) n l in
-      sym (rw z at w) ∙ e
-
-  pub below_ends : length xs ≤ i → below (drop i xs) ≡ below xs → true ≡ below xs
-  below_ends h e = sym (at_drop_all below xs i h) ∙ e
+-- the library's word for the same test
+pub every_all : {X : Type 0} (f : X → Bool) (xs : List X) → list_all f xs ≡ every f xs
+every_all f [] = refl
+every_all f (x ∷ xs) = ap (λ b. f x && b) (every_all f xs)
 
 -- the places of methods: those gathered from place p on, then those from place `at` on
-module _ (f : List ℕ) (n p : ℕ) (i at : ℕ) (ps : List ℕ) where
-  abbrev Still : Type 0
-  Still = gathered (take i ps) (places_from (n - i) f at) ≡ places_from n f p
+module _ (f : List ℕ) (n p : ℕ) (i at : ℕ) (gs : List ℕ) where
+  abbrev pub Still : Type 0
+  Still = gathered gs (places_from (n - i) f at) ≡ places_from n f p
 
   -- one more is to come
-  one_left : i < n → Still → gathered (take i ps) (one_more at (method_of at (due_at 4 f at)) (places_from (n - (i + 1)) f (behind at (standing f at)))) ≡ places_from n f p
+  one_left : i < n → Still → gathered gs (one_more at (method_of at (due_at 4 f at)) (places_from (n - (i + 1)) f (behind at (standing f at)))) ≡ places_from n f p
   one_left h s = let e : n - i ≡ suc (n - (i + 1)) = omega arith in rw e at s
 
   pub place_stops : (r : Refusal) → i < n → method_of at (due_at 4 f at) ≡ Err r → Still → Err r ≡ places_from n f p
   place_stops r h e s = let w = one_left h s in rw e at w
 
-  joins : (r : Read (List ℕ)) → gathered (take i ps ++ at ∷ []) r ≡ gathered (take i ps) (one_more at (Ok tt) r)
-  joins (Ok qs) = ap Ok (append_assoc (take i ps) (at ∷ []) qs)
+  joins : (r : Read (List ℕ)) → gathered (gs ++ at ∷ []) r ≡ gathered gs (one_more at (Ok tt) r)
+  joins (Ok qs) = ap Ok (append_assoc gs (at ∷ []) qs)
   joins (Err e) = refl
 
-  pub place_more : i < n → i < length ps → method_of at (due_at 4 f at) ≡ Ok tt → Still →
-      gathered (take (i + 1) (set ps i at)) (places_from (n - (i + 1)) f (behind at (standing f at))) ≡ places_from n f p
-  place_more h l e s =
-      let w = one_left h s in
-      let r = places_from (n - (i + 1)) f (behind at (standing f at)) in
-      let q : take (i + 1) (set ps i at) ≡ take i ps ++ at ∷ [] = rw (add-one, take-suc-set ps i at) in
-      ap (λ (xs : List ℕ). gathered xs r) q ∙ joins r ∙ (rw e at w)
-
-  -- none is to come
-  none_left : n ≡ i → Still → gathered (take n ps) (ended f at) ≡ places_from n f p
-  none_left z s = let e : n - i ≡ 0 = omega arith in let w = rw e at s in rw (← z) at w
-
-  pub place_ends : n ≡ i → leb (length f) at ≡ true → Still → Ok (take n ps) ≡ places_from n f p
-  place_ends z t s = let w = none_left z s in sym (ap Ok (append-nil (take n ps))) ∙ (rw t at w)
-
-  pub place_over : n ≡ i → leb (length f) at ≡ false → Still → Err (BadField at) ≡ places_from n f p
-  place_over z t s = let w = none_left z s in rw t at w
+  pub place_more : i < n → method_of at (due_at 4 f at) ≡ Ok tt → Still →
+      gathered (gs ++ at ∷ []) (places_from (n - (i + 1)) f (behind at (standing f at))) ≡ places_from n f p
+  place_more h e s = let w = one_left h s in joins (places_from (n - (i + 1)) f (behind at (standing f at))) ∙ (rw e at w)
 
 -- a method that was read stands inside the file
 pub method_inside : (f : List ℕ) (at : ℕ) → method_of at (due_at 4 f at) ≡ Ok tt → at < length f
@@ -76,24 +55,8 @@ method_inside f at e = by (leb (length f) at) refl
     by true t = absurd (err_ok (rw t at e))
     by false t = leb-false (length f) at t
 
--- one place more that lies inside
-pub inside_more : (b : ℕ) (ps : List ℕ) (i at : ℕ) → i < length ps → ((k : ℕ) → k < i → get_or ps k 0 < b) → at < b →
-    (k : ℕ) → k < i + 1 → get_or (set ps i at) k 0 < b
-inside_more b ps i at l h a =
-    below_more (λ k. get_or (set ps i at) k 0 < b) i (λ k g. let ne : k ≢ i = omega arith in rw get_or-set_other (h k g)) (rw get_or-set_same a)
-
 quad_shift : (x : ℕ) (xs : List ℕ) (k : ℕ) → quad_at (x ∷ xs) (suc k) ≡ quad_at xs k
 quad_shift x xs k = rw (suc-add k 1, suc-add k 2, suc-add k 3)
-
--- the next group of four
-quads_at : (xs : List ℕ) (k : ℕ) → k + 4 ≤ length xs → quads (drop k xs) ≡ quad_at xs k ∷ quads (drop (k + 4) xs)
-quads_at [] k h = absurd (omega arith)
-quads_at (a ∷ []) zero h = absurd (omega arith)
-quads_at (a ∷ (b ∷ [])) zero h = absurd (omega arith)
-quads_at (a ∷ (b ∷ (c ∷ []))) zero h = absurd (omega arith)
-quads_at (a ∷ (b ∷ (c ∷ (d ∷ r)))) zero h = refl
-quads_at (a ∷ xs) (suc k) h =
-    quads_at xs k (omega arith) ∙ ap₂ {C = List Quad} (λ q r. q ∷ r) (sym (quad_shift a xs k)) (rw (suc-add k 4))
 
 pub length_quads : (xs : List ℕ) → length (quads xs) ≡ length xs / 4
 length_quads [] = refl
@@ -102,23 +65,24 @@ length_quads (a ∷ (b ∷ [])) = refl
 length_quads (a ∷ (b ∷ (c ∷ []))) = refl
 length_quads (a ∷ (b ∷ (c ∷ (d ∷ r)))) = let h = length_quads r in omega arith
 
-quads_short : (xs : List ℕ) → length xs < 4 → quads xs ≡ []
-quads_short [] h = refl
-quads_short (a ∷ []) h = refl
-quads_short (a ∷ (b ∷ [])) h = refl
-quads_short (a ∷ (b ∷ (c ∷ []))) h = refl
-quads_short (a ∷ (b ∷ (c ∷ (d ∷ r)))) h = absurd (omega arith)
+-- the groups of four, as the code takes them
+abbrev pub chunk : List ℕ → Quad
+chunk bs = quad_at bs 0
 
--- the instructions of a method: those from index i on decide
-module _ (n size p : ℕ) (c : List ℕ) (i : ℕ) where
-  abbrev pub Deciding : Type 0
-  Deciding = judged n size i (p + 4 * i) (quads (drop (4 * i) c)) ≡ judged n size 0 p (quads c)
+pub chunks_are : (xs : List ℕ) → map chunk (first_chunks 4 (length xs / 4) xs) ≡ quads xs
+chunks_are [] = refl
+chunks_are (a ∷ []) = refl
+chunks_are (a ∷ (b ∷ [])) = refl
+chunks_are (a ∷ (b ∷ (c ∷ []))) = refl
+chunks_are (a ∷ (b ∷ (c ∷ (d ∷ r)))) =
+    let e : suc (suc (suc (suc (length r)))) / 4 ≡ suc (length r / 4) = omega arith in
+    rw e (ap {B = List Quad} (λ qs. record { a = a; b = b; c = c; d = d } ∷ qs) (chunks_are r))
 
-  next_code : 4 * i + 4 ≤ length c →
-      judged n size i (p + 4 * i) (quads (drop (4 * i) c)) ≡
-      passed (landed size i (p + 4 * i) (decode n (quad_at c (4 * i)))) (judged n size (i + 1) (p + 4 * i + 4) (quads (drop (4 * i + 4) c)))
-  next_code h = ap (judged n size i (p + 4 * i)) (quads_at c (4 * i) h)
+-- the instructions of a method, by groups of four: those from index i on decide
+abbrev pub Deciding : ℕ → ℕ → ℕ → List (List ℕ) → ℕ → Type 0
+Deciding n size p cs i = judged n size i (p + 4 * i) (map chunk (drop i cs)) ≡ judged n size 0 p (map chunk cs)
 
+module _ (n size p : ℕ) (cs : List (List ℕ)) (i : ℕ) (d : List ℕ) where
   pass_on : (r : Read Instr) (s : Read (Unit {0})) → passed r (Ok tt) ≡ Ok tt → passed r s ≡ s
   pass_on (Ok x) s e = refl
   pass_on (Err x) s e = absurd (err_ok e)
@@ -127,45 +91,44 @@ module _ (n size p : ℕ) (c : List ℕ) (i : ℕ) where
   pass_off (Ok y) s x e = absurd (err_ok (sym e))
   pass_off (Err y) s x e = e
 
-  pub code_more : 4 * i + 4 ≤ length c → passed (landed size i (p + 4 * i) (decode n (quad_at c (4 * i)))) (Ok tt) ≡ Ok tt → Deciding →
-      judged n size (i + 1) (p + 4 * (i + 1)) (quads (drop (4 * (i + 1)) c)) ≡ judged n size 0 p (quads c)
+  abbrev this : Read Instr
+  this = landed size i (p + 4 * i) (decode n (chunk (get_or cs i d)))
+
+  next_code : i < length cs → judged n size i (p + 4 * i) (map chunk (drop i cs)) ≡ passed this (judged n size (i + 1) (p + 4 * i + 4) (map chunk (drop (i + 1) cs)))
+  next_code h = at_drop_more (λ xs. judged n size i (p + 4 * i) (map chunk xs)) cs i d h
+
+  pub code_more : i < length cs → passed (landed size i (p + 4 * i) (decode n (chunk (get_or cs i d)))) (Ok tt) ≡ Ok tt → Deciding n size p cs i →
+      judged n size (i + 1) (p + 4 * (i + 1)) (map chunk (drop (i + 1) cs)) ≡ judged n size 0 p (map chunk cs)
   code_more h e s =
       let a : p + 4 * (i + 1) ≡ p + 4 * i + 4 = omega arith in
-      let b : 4 * (i + 1) ≡ 4 * i + 4 = omega arith in
-      ap₂ (λ x y. judged n size (i + 1) x (quads (drop y c))) a b ∙
-      sym (pass_on (landed size i (p + 4 * i) (decode n (quad_at c (4 * i)))) (judged n size (i + 1) (p + 4 * i + 4) (quads (drop (4 * i + 4) c))) e) ∙
-      sym (next_code h) ∙ s
+      ap (λ x. judged n size (i + 1) x (map chunk (drop (i + 1) cs))) a ∙
+      sym (pass_on this (judged n size (i + 1) (p + 4 * i + 4) (map chunk (drop (i + 1) cs))) e) ∙ sym (next_code h) ∙ s
 
-  pub code_stops : (r : Refusal) → 4 * i + 4 ≤ length c → passed (landed size i (p + 4 * i) (decode n (quad_at c (4 * i)))) (Ok tt) ≡ Err r → Deciding →
-      Err r ≡ judged n size 0 p (quads c)
+  pub code_stops : (r : Refusal) → i < length cs → passed (landed size i (p + 4 * i) (decode n (chunk (get_or cs i d)))) (Ok tt) ≡ Err r → Deciding n size p cs i →
+      Err r ≡ judged n size 0 p (map chunk cs)
   code_stops r h e s =
-      sym (pass_off (landed size i (p + 4 * i) (decode n (quad_at c (4 * i)))) (judged n size (i + 1) (p + 4 * i + 4) (quads (drop (4 * i + 4) c))) r e) ∙
-      sym (next_code h) ∙ s
+      sym (pass_off this (judged n size (i + 1) (p + 4 * i + 4) (map chunk (drop (i + 1) cs))) r e) ∙ sym (next_code h) ∙ s
 
-  pub code_ends : length c < 4 * i + 4 → Deciding → Ok tt ≡ judged n size 0 p (quads c)
-  code_ends h s =
-      let e : quads (drop (4 * i) c) ≡ [] = quads_short (drop (4 * i) c) (omega (arith, length-drop (4 * i) c)) in
-      sym (ap (judged n size i (p + 4 * i)) e) ∙ s
+  pub code_ends : length cs ≤ i → Deciding n size p cs i → Ok tt ≡ judged n size 0 p (map chunk cs)
+  code_ends h s = sym (at_drop_all (λ xs. judged n size i (p + 4 * i) (map chunk xs)) cs i h) ∙ s
 
-  pub code_starts : i ≡ 0 → Deciding
-  code_starts z = let a : p + 4 * i ≡ p = omega arith in let b : 4 * i ≡ 0 = omega arith in rw (a, b, z)
+-- all instructions of a method
+pub code_whole : (n p : ℕ) (c : List ℕ) (cs : List (List ℕ)) → cs ≡ first_chunks 4 (length c / 4) c →
+    judged n (length cs) 0 p (map chunk cs) ≡ judged n (length (quads c)) 0 p (quads c)
+code_whole n p c cs h =
+    let e : map chunk cs ≡ quads c = ap (map chunk) h ∙ chunks_are c in
+    let l : length cs ≡ length (quads c) = sym (length-map cs chunk) ∙ ap length e in
+    ap₂ (λ s qs. judged n s 0 p qs) l e
 
--- the code of all methods: those from method i on decide
-module _ (n : ℕ) (f ps : List ℕ) (i : ℕ) where
-  pub codes_more : i < length ps → code_judged n f (get_or ps i 0) ≡ Ok tt → codes_judged n f (drop i ps) ≡ codes_judged n f ps →
-      codes_judged n f (drop (i + 1) ps) ≡ codes_judged n f ps
-  codes_more h e s =
-      let w : codes_judged n f (drop i ps) ≡ both_pass (code_judged n f (get_or ps i 0)) (codes_judged n f (drop (i + 1) ps)) = at_drop_more (codes_judged n f) ps i 0 h in
-      sym (rw e at w) ∙ s
-
-  pub codes_stop : (r : Refusal) → i < length ps → code_judged n f (get_or ps i 0) ≡ Err r → codes_judged n f (drop i ps) ≡ codes_judged n f ps →
-      Err r ≡ codes_judged n f ps
-  codes_stop r h e s =
-      let w : codes_judged n f (drop i ps) ≡ both_pass (code_judged n f (get_or ps i 0)) (codes_judged n f (drop (i + 1) ps)) = at_drop_more (codes_judged n f) ps i 0 h in
-      sym (rw e at w) ∙ s
-
-  pub codes_end : length ps ≤ i → codes_judged n f (drop i ps) ≡ codes_judged n f ps → Ok tt ≡ codes_judged n f ps
-  codes_end h s = sym (at_drop_all (codes_judged n f) ps i h) ∙ s
+-- the contents of a field, out of the file from its place on
+pub field_contents : (f : List ℕ) (p : ℕ) (r : List ℕ) (n : ℕ) → r ≡ drop p f → n ≡ get_or r 1 0 * 256 + get_or r 2 0 → take n (take (length r - 3) (drop 3 r)) ≡ contents_at f p
+field_contents f p r n e h =
+    let t : take (length r - 3) (drop 3 r) ≡ drop 3 r = take_all (length r - 3) (drop 3 r) (omega (arith, length-drop 3 r)) in
+    let d : drop 3 r ≡ drop (p + 3) f = ap (drop 3) e ∙ drop-drop 3 p f ∙ ap (λ k. drop k f) (omega arith) in
+    let a : get_or r 1 0 ≡ get_or f (p + 1) 0 = ap (λ (xs : List ℕ). get_or xs 1 0) e ∙ get_or-drop p f 1 0 in
+    let b : get_or r 2 0 ≡ get_or f (p + 2) 0 = ap (λ (xs : List ℕ). get_or xs 2 0) e ∙ get_or-drop p f 2 0 in
+    let k : n ≡ get_or f (p + 1) 0 * 256 + get_or f (p + 2) 0 = omega arith in
+    ap₂ (λ (m : ℕ) (xs : List ℕ). take m xs) k (t ∙ d)
 
 -- no more can be taken than there is
 pub take_min : (m : ℕ) (xs : List ℕ) → take (min m (length xs)) xs ≡ take m xs
@@ -177,32 +140,6 @@ take_min m xs = by (leb m (length xs)) refl
         let h = leb-false m (length xs) t in
         let e : min m (length xs) ≡ length xs = omega arith in
         rw e (take_all (length xs) xs (omega arith) ∙ sym (take_all m xs (omega arith)))
-
--- a part of a file, as far as there is any
-pub part_is : (f : List ℕ) (from n start count : ℕ) → start ≡ min from (length f) → count ≡ min n (length f - start) → take count (drop start f) ≡ take n (drop from f)
-part_is f from n start count s c = by (leb from (length f)) refl
-  where
-    by : (b : Bool) → leb from (length f) ≡ b → take count (drop start f) ≡ take n (drop from f)
-    by true t =
-        let h = leb-true from (length f) t in
-        let e : start ≡ from = omega arith in
-        let k : count ≡ min n (length (drop start f)) = rw (length-drop start f) c in
-        rw k (take_min n (drop start f) ∙ ap (λ z. take n (drop z f)) e)
-    by false t =
-        let h = leb-false from (length f) t in
-        let k : count ≡ 0 = omega arith in
-        rw k (sym (ap (take n) (drop_all from f (omega arith)) ∙ take-nil n))
-
--- a place that is cut at the largest number leads as far
-pub drop_cut : (f : List ℕ) (p s top : ℕ) → s ≡ min p top → length f ≤ top → drop s f ≡ drop p f
-drop_cut f p s top e l = by (leb p top) refl
-  where
-    by : (b : Bool) → leb p top ≡ b → drop s f ≡ drop p f
-    by true t = let h = leb-true p top t in let z : s ≡ p = omega arith in rw z
-    by false t = let h = leb-false p top t in drop_all s f (omega arith) ∙ sym (drop_all p f (omega arith))
-
-pub length_cut : (n : ℕ) (f : List ℕ) → length (take n f) ≤ n
-length_cut n f = rw length-take (omega arith)
 
 -- an item inside a list, and past it
 pub nth_in : {X : Type 0} (xs : List X) (i : ℕ) (d : X) → i < length xs → nth xs i ≡ Some (get_or xs i d)
@@ -227,6 +164,24 @@ nth_quads g (a ∷ (b ∷ (c ∷ (d ∷ r)))) (suc i) h =
     nth_quads g r i (omega arith) ∙ ap (λ q. Some (g q))
     (sym (ap (quad_at (a ∷ (b ∷ (c ∷ (d ∷ r))))) e ∙ quad_shift a (b ∷ c ∷ d ∷ r) (suc (suc (suc (4 * i)))) ∙ quad_shift b (c ∷ d ∷ r) (suc (suc (4 * i))) ∙
     quad_shift c (d ∷ r) (suc (4 * i)) ∙ quad_shift d r (4 * i)))
+
+-- the start value at an index, and past the last one
+module _ (xs : List ℕ) (cs : List (List ℕ)) (i : ℕ) (e : cs ≡ first_chunks 4 (length xs / 4) xs) where
+  starts_are : map signed_of (map chunk cs) ≡ map signed_of (quads xs)
+  starts_are = ap (map signed_of) (ap (map chunk) e ∙ chunks_are xs)
+
+  pub nth_start : i < length cs → Some (signed_of (chunk (get_or cs i []))) ≡ nth (map signed_of (quads xs)) i
+  nth_start h =
+      let l = length-map cs chunk in
+      let m = length-map (map chunk cs) signed_of in
+      sym (ap Some (get_or-map signed_of (map chunk cs) i (chunk []) ∙ ap signed_of (get_or-map chunk cs i []))) ∙
+      sym (nth_in (map signed_of (map chunk cs)) i (signed_of (chunk [])) (omega arith)) ∙ ap (λ zs. nth zs i) starts_are
+
+  pub no_start : length cs ≤ i → None ≡ nth (map signed_of (quads xs)) i
+  no_start h =
+      let l = length-map cs chunk in
+      let m = length-map (map chunk cs) signed_of in
+      sym (nth_past (map signed_of (map chunk cs)) i (omega arith)) ∙ ap (λ zs. nth zs i) starts_are
 
 -- a list of bytes, byte by byte
 pub bytes_from : (xs : List ℕ) → ((i : ℕ) → get_or xs i 0 < 256) → Bytes xs

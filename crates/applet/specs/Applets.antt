@@ -10,11 +10,11 @@ use Rattle.model.specs.Fields.{Read, contents_at}
 use Rattle.model.specs.Reading.{Valid, write_applet, method_place}
 use Rattle.applet.specs.declared.reader.Layout.{Layout}
 use Rattle.applet.specs.declared.reader.Applet.{Applet}
-use Rattle.applet.specs.Stages.{Found}
+use Rattle.applet.specs.Stages.{Found, listed}
 
 -- what the fields of a file were found to be
 abbrev pub found : Layout → Found
-found l = record { threads = l.threads; cells = l.cells; places = take l.methods l.places }
+found l = record { threads = l.threads; cells = l.cells; places = listed l.places }
 
 -- what was found, or a refusal
 abbrev pub found_in : Result Layout Refusal → Read Found

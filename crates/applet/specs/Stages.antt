@@ -7,6 +7,7 @@ use Rattle.model.specs.Fields.{Read, refuse, within, every, items, contents_at, 
 use Rattle.model.specs.Reading.{landed}
 use Rattle.tlv.specs.Parts.{Due, contents, missing, due}
 use Rattle.opcodes.specs.Judging.{passed}
+use Rattle.applet.specs.declared.places.Places.{Places}
 
 -- how many methods the head tells
 abbrev pub head_of : ℕ → Due → Read ℕ
@@ -47,10 +48,14 @@ abbrev pub places_from : ℕ → List ℕ → ℕ → Read (List ℕ)
 places_from zero f p = ended f p
 places_from (suc n) f p = one_more p (method_of p (due_at 4 f p)) (places_from n f (behind p (standing f p)))
 
--- the first n of the places that were found
-abbrev pub places_in : ℕ → Result (List ℕ) Refusal → Read (List ℕ)
-places_in n (Ok ps) = Ok (take n ps)
-places_in n (Err e) = Err e
+-- the places that were found
+abbrev pub listed : Places → List ℕ
+listed ps = take ps.count ps.all
+
+-- the places, or a refusal
+abbrev pub places_in : Result Places Refusal → Read (List ℕ)
+places_in (Ok ps) = Ok (listed ps)
+places_in (Err e) = Err e
 
 -- the places that were gathered, then those still to come
 abbrev pub gathered : List ℕ → Read (List ℕ) → Read (List ℕ)

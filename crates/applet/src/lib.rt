@@ -2,6 +2,8 @@
 #![tactic(auto)]
 
 mod glance;
+mod places;
 mod reader;
+mod spot;
 
 pub use reader::{Applet, Layout};

@@ -1,28 +1,27 @@
 // The reader of applets.
-ghost use Rattle.std.specs.Prelude.{◌≡◌, ℕ, ◌+◌, ◌*◌, ◌/◌, ◌%◌, ◌<◌, ◌≤◌, length, take, drop, IfSome, IfOk, Some, Ok, OnSome, nat_lt, slice_index, slice_index_or};
+ghost use Rattle.std.specs.Prelude.{◌≡◌, ℕ, ◌+◌, ◌*◌, ◌<◌, ◌≤◌, length, take, drop, IfSome, IfOk, Some, Ok, OnSome, nat_lt};
 ghost use Rattle.std.specs.Option.{option_map};
-ghost use Rattle.opcodes.specs.Table.{row};
-ghost use Rattle.applet.specs.Glances.{Seen, blind};
-ghost use Rattle.model.specs.Words.{quads, quad_at, decode, signed_of};
+ghost use Rattle.std.specs.List.{All};
+ghost use Rattle.model.specs.Words.{quads, quad_at, decode};
 ghost use Rattle.model.specs.Reading.{landed, read_applet};
 ghost use Rattle.model.specs.Fields.{standing, behind, every, contents_at};
-ghost use Rattle.applet.specs.Applets.{quad_in, found, found_in, meant, read_seen, Placed, Kept, nth, places_of, shown};
-ghost use Rattle.opcodes.specs.Judging.{row_judged, passed};
-ghost use Rattle.applet.specs.Stages.{staged, head_of, entries_of, cells_of, method_of, due_at, places_from, places_in, judged, codes_judged};
+ghost use Rattle.applet.specs.Applets.{quad_in, found_in, meant, read_seen, Placed, Kept, nth, places_of, shown};
+ghost use Rattle.opcodes.specs.Judging.{passed};
+ghost use Rattle.applet.specs.Stages.{staged, head_of, entries_of, cells_of, method_of, due_at, listed, places_from, places_in, judged, codes_judged};
 
-use crate::glance::{Glance, glances, passes};
+use crate::glance::Glances;
+use crate::places::Places;
+use crate::spot::Spot;
 use model::Refusal;
-use opcodes::{Entry, look_up};
+use opcodes::look_up;
 use tlv::{Fields, Part};
 
-// Where the parts of an applet's file stand: how many threads, cells and methods there are, and the
-// place of each method.
+// What an applet's file holds: how many threads and cells there are, and the place of each method.
 #[derive(Clone, Copy)]
 pub struct Layout {
     threads: u8,
     cells: u8,
-    methods: u8,
-    places: [usize; 32],
+    places: Places,
 }
 
 // An applet, over the file that it was read from.
@@ -36,13 +35,11 @@ pub struct Applet<'a> {
 fn all_below(bytes: &[u8], n: u8) -> bool
     ensures { result ≡ every (λ e. nat_lt e n) bytes.now }
 {
-    for b in bytes {
-        if *b >= n {
-            return false;
-        }
-    }
-    true
+    bytes.iter().all(|b| *b < n)
 }
+
+// Each field has a function of its own. One for all would be called as `read_field(fields, Part::HEAD,
+// |c| match c { [1, n @ 1..=32] => Some(*n), _ => None })`, which is no shorter.
 
 // The head: how many methods there are.
 fn read_head(fields: &mut Fields<'_>) -> Result<u8, Refusal>
@@ -50,16 +47,13 @@ fn read_head(fields: &mut Fields<'_>) -> Result<u8, Refusal>
     ensures holder { fields.new.holder.now ≡ fields.old.holder.now }
     ensures at { IfOk result (λ n. fields.new.at ≡ fields.old.at + 5) }
 {
-    let at = fields.place();
-    match fields.due(Part::HEAD) {
-        Ok(c) => {
-            if c.len() == 2 && c[0] == 1 && c[1] >= 1 && c[1] <= 32 {
-                Ok(c[1])
-            } else {
-                Err(Refusal::BadSize(at))
-            }
-        }
-        Err(e) => Err(Refusal::BadField(e.place)),
+    let place = fields.place();
+    match fields
+        .due(Part::HEAD)
+        .map_err(|e| Refusal::BadField(e.place))?
+    {
+        [1, methods @ 1..=32] => Ok(*methods),
+        _ => Err(Refusal::BadSize(place)),
     }
 }
 
@@ -69,16 +63,13 @@ fn read_entries(fields: &mut Fields<'_>, methods: u8) -> Result<u8, Refusal>
     ensures holder { fields.new.holder.now ≡ fields.old.holder.now }
     ensures at { IfOk result (λ t. fields.new.at ≡ fields.old.at + (3 + t)) }
 {
-    let at = fields.place();
-    match fields.due(Part::ENTRIES) {
-        Ok(c) => {
-            if c.len() >= 1 && c.len() <= 8 && all_below(c, methods) {
-                Ok(c.len() as u8)
-            } else {
-                Err(Refusal::BadSize(at))
-            }
-        }
-        Err(e) => Err(Refusal::BadField(e.place)),
+    let place = fields.place();
+    let entries = fields
+        .due(Part::ENTRIES)
+        .map_err(|e| Refusal::BadField(e.place))?;
+    match entries.len() {
+        threads @ 1..=8 if all_below(entries, methods) => Ok(threads as u8),
+        _ => Err(Refusal::BadSize(place)),
     }
 }
 
@@ -88,16 +79,13 @@ fn read_cells(fields: &mut Fields<'_>) -> Result<u8, Refusal>
     ensures holder { fields.new.holder.now ≡ fields.old.holder.now }
     ensures at { IfOk result (λ s. fields.new.at ≡ fields.old.at + (3 + 4 * s)) }
 {
-    let at = fields.place();
-    match fields.due(Part::CELLS) {
-        Ok(c) => {
-            if c.len() % 4 == 0 && c.len() / 4 <= 32 {
-                Ok((c.len() / 4) as u8)
-            } else {
-                Err(Refusal::BadSize(at))
-            }
-        }
-        Err(e) => Err(Refusal::BadField(e.place)),
+    let place = fields.place();
+    let starts = fields
+        .due(Part::CELLS)
+        .map_err(|e| Refusal::BadField(e.place))?;
+    match (starts.len() / 4, starts.len() % 4) {
+        (cells @ 0..=32, 0) => Ok(cells as u8),
+        _ => Err(Refusal::BadSize(place)),
     }
 }
 
@@ -107,28 +95,25 @@ fn read_method(fields: &mut Fields<'_>) -> Result<(), Refusal>
     ensures holder { fields.new.holder.now ≡ fields.old.holder.now }
     ensures at { fields.new.at ≡ behind fields.old.at (standing fields.old.holder.now fields.old.at) }
 {
-    let at = fields.place();
-    match fields.due(Part::METHOD) {
-        Ok(c) => {
-            if c.len() % 4 == 0 && c.len() / 4 >= 1 && c.len() / 4 <= 4096 {
-                Ok(())
-            } else {
-                Err(Refusal::BadSize(at))
-            }
-        }
-        Err(e) => Err(Refusal::BadField(e.place)),
+    let place = fields.place();
+    let code = fields
+        .due(Part::METHOD)
+        .map_err(|e| Refusal::BadField(e.place))?;
+    match (code.len() / 4, code.len() % 4) {
+        (1..=4096, 0) => Ok(()),
+        _ => Err(Refusal::BadSize(place)),
     }
 }
 
 // The places of the methods, and nothing behind them.
-fn read_places(fields: &mut Fields<'_>, methods: u8) -> Result<[usize; 32], Refusal>
+fn read_places(fields: &mut Fields<'_>, methods: u8) -> Result<Places, Refusal>
     requires { methods ≤ 32 }
-    ensures value { places_in methods result ≡ places_from methods fields.old.holder.now fields.old.at }
-    ensures inside { IfOk result (λ ps. (length ps ≡ 32) × ((m : ℕ) → m < methods → slice_index ps m < length fields.old.holder.now)) }
+    ensures value { places_in result ≡ places_from methods fields.old.holder.now fields.old.at }
+    ensures inside { IfOk result (λ ps. All (λ p. p < length fields.old.holder.now) (listed ps)) }
 {
-    let mut places = [0usize; 32];
-    for m in 0..methods as usize {
-        places[m] = fields.place();
+    let mut places = Places::new();
+    for _ in 0..methods {
+        places.push(fields.place());
         read_method(fields)?;
     }
     if !fields.ended() {
@@ -137,98 +122,88 @@ fn read_places(fields: &mut Fields<'_>, methods: u8) -> Result<[usize; 32], Refu
     Ok(places)
 }
 
-// One instruction of a method's code, whose row is known.
-fn judge_by(
-    e: &Entry,
-    x: u8,
-    y: u16,
-    index: u16,
-    size: u16,
-    methods: u8,
-    place: usize,
-) -> Result<(), Refusal>
-    ensures { result ≡ row_judged methods size index place x y (Some (row e.now)) }
+// One instruction of a method's code, where there are so many methods.
+fn judge(bytes: [u8; 4], methods: u8, spot: Spot) -> Result<(), Refusal>
+    ensures { result ≡ passed (landed spot.size spot.index spot.place (decode methods (quad_at bytes 0))) (Ok tt) }
 {
-    if !e.fits(x, y, methods) {
-        return Err(Refusal::BadInstruction(place));
+    let [op, x, high, low] = bytes;
+    let y = u16::from_be_bytes([high, low]);
+    let Some(entry) = look_up(op) else {
+        return Err(Refusal::BadInstruction(spot.place));
+    };
+    if !entry.fits(x, y, methods) {
+        return Err(Refusal::BadInstruction(spot.place));
     }
-    if !e.lands(y, index, size) {
-        return Err(Refusal::BadLanding(place));
+    if !entry.lands(y, spot.index, spot.size) {
+        return Err(Refusal::BadLanding(spot.place));
     }
     Ok(())
-}
-
-// One instruction of a method's code, at its index and place.
-fn judge(code: &[u8], index: u16, size: u16, methods: u8, place: usize) -> Result<(), Refusal>
-    requires { 4 * index + 4 ≤ length code.now }
-    ensures { result ≡ passed (landed size index place (decode methods (quad_at code.now (4 * index)))) (Ok tt) }
-{
-    let at = 4 * index as usize;
-    let y = code[at + 2] as u16 * 256 + code[at + 3] as u16;
-    match look_up(code[at]) {
-        Some(e) => judge_by(&e, code[at + 1], y, index, size, methods, place),
-        None => Err(Refusal::BadInstruction(place)),
-    }
 }
 
 // The instructions of a method, whose code stands at a place.
-fn judge_code(quick: &[Glance; 64], code: &[u8], methods: u8, place: usize) -> Result<(), Refusal>
-    requires quick { (op : ℕ) → op < 64 → Seen methods op (slice_index_or quick.now op blind) }
+fn judge_code(glances: &Glances, code: &[u8], place: usize) -> Result<(), Refusal>
     requires size { length code.now ≤ 65535 }
     requires place { place < 65539 }
-    ensures { result ≡ judged methods (length (quads code.now)) 0 place (quads code.now) }
+    ensures { result ≡ judged glances.now.methods (length (quads code.now)) 0 place (quads code.now) }
 {
-    let size = (code.len() / 4) as u16;
-    for index in 0..size {
-        if passes(quick, code, index, size) {
+    let (instructions, _) = code.as_chunks::<4>();
+    let size = instructions.len() as u16;
+    for (index, bytes) in instructions.iter().enumerate() {
+        let spot = Spot {
+            index: index as u16,
+            size,
+            place: place + 4 * index,
+        };
+        if glances.passes(bytes, spot) {
             continue;
         }
-        judge(code, index, size, methods, place + 4 * index as usize)?;
+        judge(*bytes, glances.methods, spot)?;
     }
     Ok(())
 }
 
-// A byte of a file, 0 past its end.
-fn byte_at(file: &[u8], p: usize, k: usize) -> u8
-    ensures { result ≡ slice_index file.now (p + k) }
+// The first n bytes, or as many as there are.
+fn front_of(bytes: &[u8], n: usize) -> &[u8]
+    ensures { result.now ≡ take n bytes.now }
 {
-    if p >= file.len() {
-        return 0;
-    }
-    if k >= file.len() - p {
-        return 0;
-    }
-    file[p + k]
+    bytes.get(..n).unwrap_or(bytes)
+}
+
+// A file from a place on.
+fn rest_of(file: &[u8], from: usize) -> &[u8]
+    ensures { result.now ≡ drop from file.now }
+{
+    file.get(from..).unwrap_or(&[])
 }
 
 // A part of a file from a place on, as far as there is any.
-fn part_of<'a>(file: &'a [u8], from: usize, n: usize) -> &'a [u8]
+fn part_of(file: &[u8], from: usize, n: usize) -> &[u8]
     ensures { result.now ≡ take n (drop from file.now) }
 {
-    let start = from.min(file.len());
-    let count = n.min(file.len() - start);
-    &file[start..start + count]
+    front_of(rest_of(file, from), n)
 }
 
 // The contents of the field at a place, as that part of the file.
-fn contents_of<'a>(file: &'a [u8], p: usize) -> &'a [u8]
-    ensures value { result.now ≡ contents_at file.now p }
+fn contents_of(file: &[u8], place: usize) -> &[u8]
+    ensures value { result.now ≡ contents_at file.now place }
     ensures size { length result.now ≤ 65535 }
 {
-    let n = byte_at(file, p, 1) as usize * 256 + byte_at(file, p, 2) as usize;
-    part_of(file, p.saturating_add(3), n)
+    match rest_of(file, place) {
+        [_, high, low, rest @ ..] => {
+            front_of(rest, usize::from(u16::from_be_bytes([*high, *low])))
+        }
+        _ => &[],
+    }
 }
 
-// The instructions of all methods.
-fn judge_codes(file: &[u8], methods: u8, places: &[usize; 32]) -> Result<(), Refusal>
-    requires few { methods ≤ 32 }
-    requires inside { (m : ℕ) → m < methods → slice_index places.now m < 65536 }
-    ensures { result ≡ codes_judged methods file.now (take methods places.now) }
+// The instructions of all methods, which stand at these places.
+fn judge_codes(file: &[u8], methods: u8, places: &[usize]) -> Result<(), Refusal>
+    requires { All (λ p. p < 65536) places.now }
+    ensures { result ≡ codes_judged methods file.now places.now }
 {
-    let quick = glances(methods);
-    for m in 0..methods as usize {
-        let p = places[m];
-        judge_code(&quick, contents_of(file, p), methods, p + 3)?;
+    let glances = Glances::new(methods);
+    for place in places {
+        judge_code(&glances, contents_of(file, *place), *place + 3)?;
     }
     Ok(())
 }
@@ -245,39 +220,12 @@ fn read_layout(file: &[u8]) -> Result<Layout, Refusal>
     let threads = read_entries(&mut fields, methods)?;
     let cells = read_cells(&mut fields)?;
     let places = read_places(&mut fields, methods)?;
-    judge_codes(file, methods, &places)?;
+    judge_codes(file, methods, places.as_slice())?;
     Ok(Layout {
         threads,
         cells,
-        methods,
         places,
     })
-}
-
-// A signed number of four bytes at a place.
-fn signed_at(bytes: &[u8], at: usize) -> i32
-    requires { at + 4 ≤ length bytes.now }
-    ensures { result ≡ signed_of (quad_at bytes.now at) }
-{
-    i32::from_be_bytes([bytes[at], bytes[at + 1], bytes[at + 2], bytes[at + 3]])
-}
-
-// The four bytes at an index of the contents of the field at a place, if they are so long.
-fn quad_of(file: &[u8], p: usize, index: u32) -> Option<[u8; 4]>
-    ensures value { result ≡ quad_in (Some (contents_at file.now p)) index }
-    ensures low { OnSome result (index < 16384) }
-{
-    let at = 4 * index as usize;
-    let size = file.len();
-    if p >= size || size - p < at + 7 {
-        return None;
-    }
-    let n = file[p + 1] as usize * 256 + file[p + 2] as usize;
-    if n < at + 4 {
-        return None;
-    }
-    let q = p + 3 + at;
-    Some([file[q], file[q + 1], file[q + 2], file[q + 3]])
 }
 
 impl<'a> Applet<'a> {
@@ -290,17 +238,15 @@ impl<'a> Applet<'a> {
         ensures places { IfOk result Placed }
         ensures kept { IfOk result (λ a. Kept file.now (meant a)) }
     {
-        match read_layout(file) {
-            Ok(layout) => Ok(Applet { file, layout }),
-            Err(e) => Err(e),
-        }
+        let layout = read_layout(file)?;
+        Ok(Applet { file, layout })
     }
 
     // The method in which each thread starts, as that part of the file.
     pub fn entries(&self) -> &'a [u8]
         ensures { result.now ≡ (meant self.now).entries }
     {
-        part_of(self.file, 8, self.layout.threads as usize)
+        part_of(self.file, 8, usize::from(self.layout.threads))
     }
 
     // The start values in their four bytes each, as that part of the file.
@@ -309,8 +255,8 @@ impl<'a> Applet<'a> {
     {
         part_of(
             self.file,
-            11 + self.layout.threads as usize,
-            4 * self.layout.cells as usize,
+            11 + usize::from(self.layout.threads),
+            4 * usize::from(self.layout.cells),
         )
     }
 
@@ -325,30 +271,22 @@ impl<'a> Applet<'a> {
     pub fn start(&self, cell: usize) -> Option<i32>
         ensures { result ≡ nth (meant self.now).starts cell }
     {
-        let bytes = self.start_bytes();
-        if cell < bytes.len() / 4 {
-            Some(signed_at(bytes, 4 * cell))
-        } else {
-            None
-        }
+        let (starts, _) = self.start_bytes().as_chunks::<4>();
+        Some(i32::from_be_bytes(*starts.get(cell)?))
     }
 
     // How many methods there are.
     pub fn methods(&self) -> u8
         ensures { result ≡ length (meant self.now).methods }
     {
-        self.layout.methods.min(32)
+        self.layout.places.count()
     }
 
     // The place of a method, if there is one.
     pub fn place(&self, m: usize) -> Option<usize>
         ensures { result ≡ nth (places_of self.now) m }
     {
-        if m < self.layout.methods.min(32) as usize {
-            Some(self.layout.places[m])
-        } else {
-            None
-        }
+        self.layout.places.as_slice().get(m).copied()
     }
 
     // The code of a method, as that part of the file.
@@ -356,10 +294,7 @@ impl<'a> Applet<'a> {
         ensures size { IfSome result (λ c. length c.now ≤ 65535) }
         ensures value { shown result ≡ option_map (contents_at self.now.file.now) (nth (places_of self.now) m) }
     {
-        match self.place(m) {
-            Some(p) => Some(contents_of(self.file, p)),
-            None => None,
-        }
+        Some(contents_of(self.file, self.place(m)?))
     }
 
     // The four bytes at an index of a method's code, if it is so long.
@@ -367,9 +302,7 @@ impl<'a> Applet<'a> {
         ensures value { result ≡ quad_in (option_map (contents_at self.now.file.now) (nth (places_of self.now) m)) index }
         ensures low { OnSome result (index < 16384) }
     {
-        match self.place(m) {
-            Some(p) => quad_of(self.file, p, index),
-            None => None,
-        }
+        let code = self.code(m)?;
+        code.get(4 * index as usize..)?.first_chunk().copied()
     }
 }

@@ -1,11 +1,10 @@
-use Rattle.applet.proofs.Loops.{below_goes, below_stops, below_ends}
+use Rattle.std.proofs.Common.{ltb, tests, rules, ◌∙◌}
+use Rattle.std.proofs.lemmas.Iterator.{YieldsList-from_slice}
+use Rattle.std.proofs.lemmas.Iterator.Search.{all_from_yields_List}
+use Rattle.applet.proofs.Loops.{every_all}
 use Rattle.applet.proofs.reader.all_below.Goals as goal
 
-pub returns-then-b-n : goal.returns-then-b-n
-returns-then-b-n c = below_stops _ _ c.loop-b.b-index c.loop-b-test.true c.if-b-n.true c.loop-b.invariant
-
-pub loop-b-preserved : goal.loop-b-preserved
-loop-b-preserved c = below_goes _ _ c.loop-b.b-index c.loop-b-test.true c.if-b-n.false c.loop-b.invariant
-
 pub returns : goal.returns
-returns c = below_ends _ _ c.loop-b.b-index c.loop-b-test.false c.loop-b.invariant
+returns c =
+    all_from_yields_List (λ e. ltb e c.args.n) _ _ c.all.result c.all.ensures.ran (YieldsList-from_slice c.args.bytes.now cc) (λ x b q k. search (rules, tests)) ∙
+    every_all (λ e. ltb e c.args.n) c.args.bytes.now

@@ -1,9 +1,10 @@
-use Rattle.std.proofs.Common.{◌≡◌, ℕ, ◌+◌, ◌*◌, true, cond, leb, List, length, take, sym, ap, ◌∙◌, ap₂, arith}
-use Rattle.std.proofs.lemmas.Result.{err_from_is_err_and}
+use Rattle.std.proofs.Common.{◌≡◌, ℕ, ◌+◌, ◌*◌, true, cond, leb, List, length, sym, ap, ◌∙◌, ap₂, arith}
 use Rattle.std.proofs.lemmas.Bool.{le-leb}
 use Rattle.model.specs.declared.Refusal.TheVariants.{BadField}
 use Rattle.model.specs.Fields.{refuse}
-use Rattle.applet.specs.Stages.{head_of, entries_of, cells_of, due_at, places_from, places_in, staged, from_head, from_entries, from_cells, from_places, from_codes}
+use Rattle.applet.specs.Applets.{found_in}
+use Rattle.applet.proofs.Loops.{failed}
+use Rattle.applet.specs.Stages.{head_of, entries_of, cells_of, due_at, listed, places_from, places_in, staged, from_head, from_entries, from_cells, from_places, from_codes, codes_judged}
 use Rattle.applet.proofs.reader.read_layout.Goals as goal
 use Rattle.applet.proofs.reader.read_layout.Goals.{After-read_head, After-read_entries, After-read_cells, After-read_places, After-judge_codes}
 
@@ -54,7 +55,7 @@ module _ (c : After-read_places) where
 
   by_places : staged c.args.file.now ≡
       from_places c.args.file.now c.in_ok-methods.methods c.in_ok-threads.threads c.in_ok-cells.cells
-      (places_in c.in_ok-methods.methods c.read_places.result)
+      (places_in c.read_places.result)
   by_places =
       by_cells (goal.at.After-read_places c).After-read_cells ∙
       ap (from_cells c.args.file.now c.in_ok-methods.methods c.in_ok-threads.threads) c.in_ok-cells.was ∙
@@ -64,50 +65,41 @@ module _ (c : After-read_places) where
 -- then to the code
 module _ (c : After-judge_codes) where
   by_codes : staged c.args.file.now ≡
-      from_codes c.in_ok-threads.threads c.in_ok-cells.cells (take c.in_ok-methods.methods c.in_ok-places.places) c.judge_codes.result
+      from_codes c.in_ok-threads.threads c.in_ok-cells.cells (listed c.in_ok-places.places) c.judge_codes.result
   by_codes =
       by_places (goal.at.After-judge_codes c).After-read_places ∙
-      ap (λ r. from_places c.args.file.now c.in_ok-methods.methods c.in_ok-threads.threads c.in_ok-cells.cells (places_in c.in_ok-methods.methods r))
+      ap (λ r. from_places c.args.file.now c.in_ok-methods.methods c.in_ok-threads.threads c.in_ok-cells.cells (places_in r))
       c.in_ok-places.was ∙
-      ap (from_codes c.in_ok-threads.threads c.in_ok-cells.cells (take c.in_ok-methods.methods c.in_ok-places.places))
-      (sym c.judge_codes.ensures)
+      ap (from_codes c.in_ok-threads.threads c.in_ok-cells.cells (listed c.in_ok-places.places))
+      (sym (c.judge_codes.ensures ∙ ap (codes_judged c.in_ok-methods.methods c.args.file.now) c.as_slice.ensures))
 
 pub returns-in_err-methods : goal.returns-in_err-methods
 returns-in_err-methods c =
-    let p = err_from_is_err_and c.from_residual.result c.from_residual.ensures.1 in
-    rw (p.1, p.2) (sym (by_head (goal.at.returns-in_err-methods c).After-read_head ∙ ap (from_head c.args.file.now) c.in_err-methods.was))
+    ap found_in (failed c.from_residual.result _ c.from_residual.ensures.1) ∙ (sym (by_head (goal.at.returns-in_err-methods c).After-read_head ∙ ap (from_head c.args.file.now) c.in_err-methods.was))
 
 pub returns-in_err-threads : goal.returns-in_err-threads
 returns-in_err-threads c =
-    let p = err_from_is_err_and c.from_residual-in_err-threads.result c.from_residual-in_err-threads.ensures.1 in
-    rw (p.1, p.2)
-    (sym (by_entries (goal.at.returns-in_err-threads c).After-read_entries ∙ ap (from_entries c.args.file.now c.in_ok-methods.methods) c.in_err-threads.was))
+    ap found_in (failed c.from_residual-in_err-threads.result _ c.from_residual-in_err-threads.ensures.1) ∙ (sym (by_entries (goal.at.returns-in_err-threads c).After-read_entries ∙ ap (from_entries c.args.file.now c.in_ok-methods.methods) c.in_err-threads.was))
 
 pub returns-in_err-cells : goal.returns-in_err-cells
 returns-in_err-cells c =
-    let p = err_from_is_err_and c.from_residual-in_err-cells.result c.from_residual-in_err-cells.ensures.1 in
-    rw (p.1, p.2)
-    (sym (by_cells (goal.at.returns-in_err-cells c).After-read_cells ∙
+    ap found_in (failed c.from_residual-in_err-cells.result _ c.from_residual-in_err-cells.ensures.1) ∙ (sym (by_cells (goal.at.returns-in_err-cells c).After-read_cells ∙
     ap (from_cells c.args.file.now c.in_ok-methods.methods c.in_ok-threads.threads) c.in_err-cells.was))
 
 pub returns-in_err-places : goal.returns-in_err-places
 returns-in_err-places c =
-    let p = err_from_is_err_and c.from_residual-in_err-places.result c.from_residual-in_err-places.ensures.1 in
-    rw (p.1, p.2)
-    (sym (by_places (goal.at.returns-in_err-places c).After-read_places ∙
-    ap (λ r. from_places c.args.file.now c.in_ok-methods.methods c.in_ok-threads.threads c.in_ok-cells.cells (places_in c.in_ok-methods.methods r))
+    ap found_in (failed c.from_residual-in_err-places.result _ c.from_residual-in_err-places.ensures.1) ∙ (sym (by_places (goal.at.returns-in_err-places c).After-read_places ∙
+    ap (λ r. from_places c.args.file.now c.in_ok-methods.methods c.in_ok-threads.threads c.in_ok-cells.cells (places_in r))
     c.in_err-places.was))
 
 pub returns-in_err-judge_codes : goal.returns-in_err-judge_codes
 returns-in_err-judge_codes c =
-    let p = err_from_is_err_and c.from_residual-in_err-judge_codes.result c.from_residual-in_err-judge_codes.ensures.1 in
-    rw (p.1, p.2)
-    (sym (by_codes (goal.at.returns-in_err-judge_codes c).After-judge_codes ∙
-    ap (from_codes c.in_ok-threads.threads c.in_ok-cells.cells (take c.in_ok-methods.methods c.in_ok-places.places))
+    ap found_in (failed c.from_residual-in_err-judge_codes.result _ c.from_residual-in_err-judge_codes.ensures.1) ∙ (sym (by_codes (goal.at.returns-in_err-judge_codes c).After-judge_codes ∙
+    ap (from_codes c.in_ok-threads.threads c.in_ok-cells.cells (listed c.in_ok-places.places))
     c.in_err-judge_codes.was))
 
 pub returns : goal.returns
 returns c =
     sym (by_codes (goal.at.returns c).After-judge_codes ∙
-    ap (from_codes c.in_ok-threads.threads c.in_ok-cells.cells (take c.in_ok-methods.methods c.in_ok-places.places))
+    ap (from_codes c.in_ok-threads.threads c.in_ok-cells.cells (listed c.in_ok-places.places))
     c.in_ok-judge_codes.was)

@@ -1,11 +1,14 @@
-use Rattle.std.proofs.Common.{◌≡◌, ℕ, ◌-◌, ◌<◌, length, get_or, take}
-use Rattle.applet.specs.Stages.{gathered, places_from}
+use Rattle.std.proofs.Common.{◌≡◌, ◌<◌, length}
+use Rattle.std.specs.List.{All}
+use Rattle.applet.specs.Stages.{listed}
+use Rattle.applet.proofs.Loops.{Still}
 use Rattle.applet.proofs.reader.read_places.Given as goal
 
 -- what was gathered, and what is still to come, is what was to be found
-abbrev pub invariant-loop-m : goal.invariant-loop-m
-invariant-loop-m l =
-    (l.fields.holder.now ≡ l.initial.fields.holder.now) × (length l.places ≡ 32) ×
-    ((k : ℕ) → k < l.m → get_or l.places k 0 < length l.initial.fields.holder.now) ×
-    (gathered (take l.m l.places) (places_from (l.methods - l.m) l.initial.fields.holder.now l.fields.at) ≡
-    places_from l.methods l.initial.fields.holder.now l.initial.fields.at)
+abbrev pub invariant-loop : goal.invariant-loop
+invariant-loop l = record {
+  holder : l.fields.holder.now ≡ l.initial.fields.holder.now;
+  counted : l.places.count ≡ l.counter;
+  inside : All (λ p. p < length l.initial.fields.holder.now) (listed l.places);
+  still : Still l.initial.fields.holder.now l.methods l.initial.fields.at l.places.count l.fields.at (listed l.places);
+}

@@ -1,21 +1,26 @@
-use Rattle.std.proofs.Common.{ℕ, ◌*◌, List, map, ℤ, Some, sym, ap, ◌∙◌, arith, w32, to_z, of_z}
-use lib.ListN.{length-map}
+use Rattle.std.proofs.Common.{◌≡◌, ℕ, ◌*◌, ◌+◌, ◌<◌, ◌≤◌, [], List, map, length, get_or, ℤ, Some, None, ap, ◌∙◌, arith, w32, to_z, of_z, rules}
 use Rattle.std.proofs.lemmas.Int.{to_z-of_z}
 use borrow.Author.Gap.{read_sfits}
-use Rattle.model.specs.Words.{quads, quad_at, signed_of}
-use Rattle.applet.proofs.Loops.{nth_quads, nth_past, length_quads}
+use Rattle.model.specs.Words.{quads, quad_at, signed_of, word}
+use Rattle.applet.proofs.Loops.{nth_start, no_start}
 use Rattle.applet.specs.Applets.{nth}
 use Rattle.applet.proofs.reader.Applet.start.Goals as goal
 
-pub returns-then-cell-bytes : goal.returns-then-cell-bytes
-returns-then-cell-bytes c =
-    let xs = c.start_bytes-bytes.result.now in
-    ap (λ (z : ℤ). Some (to_z w32 (of_z w32 z))) c.signed_at.ensures ∙ ap Some (to_z-of_z w32 (signed_of (quad_at xs (4 * c.args.cell))) (read_sfits w32 _)) ∙
-    sym (nth_quads signed_of xs c.args.cell (let h = c.if-cell-bytes.true in omega arith)) ∙
-    ap (λ (ys : List ℕ). nth (map signed_of (quads ys)) c.args.cell) c.start_bytes-bytes.ensures
+pub returns-in_err-get : goal.returns-in_err-get
+returns-in_err-get c =
+    let h : length c.as_chunks.result.0.now ≤ c.args.cell = search rules in
+    let e : c.from_residual.result ≡ None = search rules in
+    e ∙ no_start c.start_bytes.result.now c.as_chunks.result.0.now c.args.cell c.as_chunks.ensures.front h ∙
+    ap (λ (ys : List ℕ). nth (map signed_of (quads ys)) c.args.cell) c.start_bytes.ensures
 
-pub returns-else-cell-bytes : goal.returns-else-cell-bytes
-returns-else-cell-bytes c =
-    let xs = c.start_bytes-bytes.result.now in
-    sym (nth_past (map signed_of (quads xs)) c.args.cell (let h = c.if-cell-bytes.false in omega (arith, length-map (quads xs) signed_of, length_quads xs))) ∙
-    ap (λ (ys : List ℕ). nth (map signed_of (quads ys)) c.args.cell) c.start_bytes-bytes.ensures
+pub returns : goal.returns
+returns c =
+    let h : c.args.cell < length c.as_chunks.result.0.now = search rules in
+    let e : c.in_ok-get.field-0.now ≡ get_or c.as_chunks.result.0.now c.args.cell [] = search rules in
+    let bs = c.in_ok-get.field-0.now in
+    let w : get_or bs 0 0 * 16777216 + get_or bs 1 0 * 65536 + get_or bs 2 0 * 256 + get_or bs 3 0 ≡ word (word (word (get_or bs 0 0) (get_or bs 1 0)) (get_or bs 2 0)) (get_or bs 3 0) =
+    omega arith in
+    ap (λ (z : ℤ). Some (to_z w32 (of_z w32 z))) (c.from_be_bytes.ensures ∙ ap (to_z w32) w) ∙ ap Some (to_z-of_z w32 (signed_of (quad_at c.in_ok-get.field-0.now 0)) (read_sfits w32 _)) ∙
+    ap (λ (bs : List ℕ). Some (signed_of (quad_at bs 0))) e ∙
+    nth_start c.start_bytes.result.now c.as_chunks.result.0.now c.args.cell c.as_chunks.ensures.front h ∙
+    ap (λ (ys : List ℕ). nth (map signed_of (quads ys)) c.args.cell) c.start_bytes.ensures
