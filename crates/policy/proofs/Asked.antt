@@ -2,6 +2,8 @@
 use Rattle.std.proofs.Common.{◌≡◌, ℕ, ◌+◌, ◌*◌, ◌≤◌, Bool, true, false, cond, ◌||◌, eqb, leb, List, length, take, ℤ, Ok, Err, Option, sym, refl, ap, ◌∙◌, arith}
 use Rattle.std.proofs.lemmas.Bool.{leb-true}
 use Rattle.std.proofs.lemmas.Bool.Decides.{nat_tests}
+use Rattle.std.proofs.lemmas.Result.{err_from_is_err_and}
+use Rattle.std.specs.Result.{IsErrAnd}
 use Rattle.model.specs.declared.Moment.{Moment}
 use Rattle.model.specs.declared.Refusal.{Refusal}
 use Rattle.model.specs.declared.Refusal.TheVariants.{AreaTooShort, NoSuchEvent, BlockTooLong, TooManyCells}
@@ -21,6 +23,10 @@ clash h = absurd (let z : ◌≡◌ {A = ℕ} 0 1 = cc in omega arith)
 -- the same refusal of another call
 pub same : {X Y : Type 0} {x y : Refusal} → ◌≡◌ {A = Read X} (Err x) (Err y) → ◌≡◌ {A = Read Y} (Err x) (Err y)
 same {x = x} {y = y} h = let z : x ≡ y = cc in ap Err z
+
+-- what `?` passes on is the refusal that it met
+pub passed : {X : Type 0} {x : Refusal} (r : Read X) → IsErrAnd r (λ y. y ≡ x) → r ≡ Err x
+passed r h = let p = err_from_is_err_and r h in p.1 ∙ ap Err p.2
 
 -- ---- whether a call is watched
 

@@ -8,3 +8,5 @@ pub mod Pairs
 pub mod WithinLimits
 -- the calls on a watch
 pub mod Watched
+-- fields at places of a holder
+pub mod Places

@@ -141,7 +141,7 @@ after_both row x y a w e f h =
     rw (i, take_at x (drop a row) a e, ← append_assoc x y (drop (w - a) (drop a (x ++ drop a row)))) (take_at (x ++ y) _ w (length-append x y ∙ omega arith))
 
 -- what is behind the first's cells, and behind both's
-pub behind_one : (row x : List ℤ) (a : ℕ) → length x ≡ a → drop a (x ++ post_of 0 (a - 0) row) ≡ drop a row
+behind_one : (row x : List ℤ) (a : ℕ) → length x ≡ a → drop a (x ++ post_of 0 (a - 0) row) ≡ drop a row
 behind_one row x a e = let i : a - 0 ≡ a = omega arith in rw (i, drop_at x (drop a row) a e) refl
 
 pub rest_two : (row x y : List ℤ) (a w : ℕ) → length x ≡ a → a ≤ w → drop a (put_mid a (w - a) (x ++ post_of 0 (a - 0) row) y) ≡ y ++ drop w row

@@ -13,8 +13,7 @@ pub fn put(area: &mut [u8], at: usize, test: Test) -> usize
     ensures room { at + 4 ≤ length area.old → area.new ≡ put_at area.old at (block_bytes (test ∷ [])) }
     ensures behind { result ≡ behind_put area.old at (block_bytes (test ∷ [])) }
 {
-    let size = area.len();
-    if size < 4 || at > size - 4 {
+    if area.len().saturating_sub(at) < 4 {
         return at;
     }
     area[at..at + 4].copy_from_slice(&encode(Instr::Test(test)));

@@ -10,9 +10,9 @@ use model::{Moment, Refusal};
 fn short_blocks<P: Policy>(p: &P, call: u8) -> bool
     ensures { result ≡ each_moment (λ t. nat_le (length (P.blocks p.now call t 0)) 1000) }
 {
-    p.block_len(call, Moment::Before) <= 1000
-        && p.block_len(call, Moment::After) <= 1000
-        && p.block_len(call, Moment::Raised) <= 1000
+    Moment::ALL
+        .iter()
+        .all(|moment| p.block_len(call, *moment) <= 1000)
 }
 
 // A policy has at most 32 cells, and each of its blocks at most 1,000 instructions.
@@ -22,10 +22,8 @@ pub fn limits<P: Policy>(p: &P) -> Result<(), Refusal>
     if p.width() > 32 {
         return Err(Refusal::TooManyCells);
     }
-    for call in 0..64 {
-        if !short_blocks(p, call) {
-            return Err(Refusal::BlockTooLong);
-        }
+    if !(0..64).all(|call| short_blocks(p, call)) {
+        return Err(Refusal::BlockTooLong);
     }
     Ok(())
 }

@@ -10,12 +10,9 @@ pub fn policy_kind(file: &[u8]) -> Result<PolicyKind, Refusal>
     ensures value { result ≡ policy_kind file.now }
     ensures read { ReadByKind file.now result }
 {
-    if file.len() == 0 {
-        return Err(Refusal::BadPolicyField(0));
-    }
-    match file[0] {
-        Part::TABLE_HEAD => Ok(PolicyKind::Table),
-        Part::RULES_HEAD => Ok(PolicyKind::Rules),
+    match file {
+        [Part::TABLE_HEAD, ..] => Ok(PolicyKind::Table),
+        [Part::RULES_HEAD, ..] => Ok(PolicyKind::Rules),
         _ => Err(Refusal::BadPolicyField(0)),
     }
 }

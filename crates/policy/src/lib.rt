@@ -10,15 +10,19 @@ use model::{Event, Moment, Refusal, Verdict};
 mod blocks;
 mod bounds;
 mod calls;
+mod fields;
 mod kind;
 mod pair;
+mod pieces;
 mod watch;
 
 pub use blocks::put;
 pub use bounds::limits;
 pub use calls::{known, may_start, may_step, may_write};
+pub use fields::due;
 pub use kind::policy_kind;
 pub use pair::Pair;
+pub use pieces::{Piece, Pieces};
 pub use watch::Watch;
 
 // A policy: an automaton over a row of cells that takes or refuses events, and for each call and
@@ -33,7 +37,8 @@ pub trait Policy {
     // that its blocks do what its steps say
     ghost shows: { (p : Self) → Showing (meaning p) (blocks p) };
 
-    // How many cells it has, or 255 where there are more.
+    // How many cells it has, or 255 where there are more: past 32 every call refuses, by how many does
+    // not matter, and an `Option` would be asked for its number at each use.
     fn width(&self) -> u8
         ensures { result ≡ told_width (meaning self.now) };
 
@@ -52,7 +57,8 @@ pub trait Policy {
         ensures answer { result ≡ step_answer (meaning self.now) event.now row.old }
         ensures row { row.new ≡ row_after (meaning self.now) event.now row.old };
 
-    // How many instructions the block for a call and a moment has, or 65,535 where there are more.
+    // How many instructions the block for a call and a moment has, or 65,535 where there are more, as
+    // past 1,000 the block is refused.
     fn block_len(&self, call: u8, moment: Moment) -> u16
         ensures { result ≡ told_length (blocks self.now) call moment };
 

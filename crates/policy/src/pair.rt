@@ -17,22 +17,34 @@ pub struct Pair<P, Q> {
     second: Q,
 }
 
-// The first cells of a row, then zeros.
-fn copied(row: &[i32], w: usize) -> [i32; 32]
-    requires { (w ≤ 32) × (w ≤ length row.now) }
-    ensures { take w result ≡ take w row.now }
-{
-    let mut cells = [0; 32];
-    cells[0..w].copy_from_slice(&row[0..w]);
-    cells
+// The first cells of a row, put aside: so many of the 32, which may be more.
+#[derive(Clone, Copy)]
+struct Aside {
+    cells: [i32; 32],
+    width: usize,
+    ghost narrow: { width ≤ 32 },
 }
 
-// Writes cells back over the first of a row.
-fn put_back(row: &mut [i32], cells: &[i32; 32], w: usize)
-    requires { (w ≤ 32) × (w ≤ length row.old) }
-    ensures { row.new ≡ take w cells.now ++ drop w row.old }
-{
-    row[0..w].copy_from_slice(&cells[0..w]);
+impl Aside {
+    // So many of a row's first cells.
+    fn new(row: &[i32], width: usize) -> Aside
+        requires narrow { width ≤ 32 }
+        requires room { width ≤ length row.now }
+        ensures width { result.width ≡ width }
+        ensures cells { take width result.cells ≡ take width row.now }
+    {
+        let mut cells = [0; 32];
+        cells[..width].copy_from_slice(&row[..width]);
+        Aside { cells, width }
+    }
+
+    // Writes them back over the first cells of a row.
+    fn put_back(&self, row: &mut [i32])
+        requires { self.now.width ≤ length row.old }
+        ensures { row.new ≡ take self.now.width self.now.cells ++ drop self.now.width row.old }
+    {
+        row[..self.width].copy_from_slice(&self.cells[..self.width]);
+    }
 }
 
 // Whether a step answers that the event is taken.
@@ -63,7 +75,11 @@ impl<P: Policy, Q: Policy> Pair<P, Q> {
     // Both steps in the row, of which the first has `a` cells and both have `w`. If one of them refuses
     // the event, only the first's cells may change.
     fn step_both(&self, event: &Event, cells: &mut [i32], a: usize, w: usize) -> Verdict
-        requires { (event.now.call ≤ 63) × (a ≡ (P.Policy.meaning self.now.first).width) × (w ≡ a + (Q.Policy.meaning self.now.second).width) × (w ≤ 32) × (w ≤ length cells.old) }
+        requires known { event.now.call ≤ 63 }
+        requires first { a ≡ (P.Policy.meaning self.now.first).width }
+        requires both { w ≡ a + (Q.Policy.meaning self.now.second).width }
+        requires narrow { w ≤ 32 }
+        requires room { w ≤ length cells.old }
         ensures answer { result ≡ verdict_of ((pair_automaton (P.Policy.meaning self.now.first) (Q.Policy.meaning self.now.second)).step event.now (take w cells.old)) }
         ensures cells { result ≡ Verdict.Taken → Some (take w cells.new) ≡ (pair_automaton (P.Policy.meaning self.now.first) (Q.Policy.meaning self.now.second)).step event.now (take w cells.old) }
         ensures past { result ≡ Verdict.Taken → drop w cells.new ≡ drop w cells.old }
@@ -109,14 +125,12 @@ impl<P: Policy, Q: Policy> Policy for Pair<P, Q> {
         may_step(event.call, w, row.len())?;
         let a = usize::from(self.first.width());
         let w = usize::from(w);
-        let cells = copied(row, a);
-        match self.step_both(event, row, a, w) {
-            Verdict::Taken => Ok(Verdict::Taken),
-            Verdict::Refused => {
-                put_back(row, &cells, a);
-                Ok(Verdict::Refused)
-            }
+        let aside = Aside::new(row, a);
+        let verdict = self.step_both(event, row, a, w);
+        if verdict == Verdict::Refused {
+            aside.put_back(row);
         }
+        Ok(verdict)
     }
 
     fn block_len(&self, call: u8, moment: Moment) -> u16 {

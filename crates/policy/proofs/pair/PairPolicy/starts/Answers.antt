@@ -1,16 +1,14 @@
-use Rattle.std.proofs.Common.{◌≡◌, ◌+◌, ◌≤◌, Err, ap, ◌∙◌, arith}
-use Rattle.std.proofs.lemmas.Result.{err_from_is_err_and}
+use Rattle.std.proofs.Common.{◌≡◌, ◌+◌, ◌≤◌, ◌∙◌, arith}
 use Rattle.model.specs.Kinds.{pair_automaton}
-use Rattle.policy.proofs.Asked.{starts_refused, starts_allowed}
 use Rattle.policy.proofs.Pairs.{pair_starts}
+use Rattle.policy.proofs.Asked.{passed, starts_refused, starts_allowed}
 use Rattle.policy.proofs.pair.PairPolicy.starts.Goals as goal
 
 pub returns-in_err-may_start : goal.returns-in_err-may_start
 returns-in_err-may_start g c =
-    let r = err_from_is_err_and c.from_residual.result c.from_residual.ensures.1 in
     let A = pair_automaton (g.P.Policy.meaning c.args.self.now.first) (g.Q.Policy.meaning c.args.self.now.second) in
     let h = starts_refused A c.args.row.now c.in_err-may_start.field-0.0 (rw c.width.ensures at c.in_err-may_start.ensures) in
-    record { answer = r.1 ∙ ap Err r.2 ∙ h.0; row = h.1 }
+    record { answer = passed _ c.from_residual.ensures.1 ∙ h.0; row = h.1 }
 
 pub returns : goal.returns
 returns g c =

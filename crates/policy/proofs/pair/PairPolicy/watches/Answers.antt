@@ -1,18 +1,16 @@
-use Rattle.std.proofs.Common.{Ok, Err, ap, ◌∙◌}
-use Rattle.std.proofs.lemmas.Result.{err_from_is_err_and}
+use Rattle.std.proofs.Common.{Ok, ap, ◌∙◌}
+use Rattle.policy.proofs.Asked.{passed}
 use Rattle.policy.proofs.Pairs.{watched_first, watched_second, watched_both, or_then, or_else}
 use Rattle.policy.proofs.pair.PairPolicy.watches.Goals as goal
 
 pub returns-in_err-a : goal.returns-in_err-a
 returns-in_err-a g c =
-    let p = err_from_is_err_and c.from_residual.result c.from_residual.ensures.1 in
-    p.1 ∙ ap Err p.2 ∙
+    passed _ c.from_residual.ensures.1 ∙
     watched_first (g.P.Policy.meaning c.args.self.now.first) (g.Q.Policy.meaning c.args.self.now.second) c.args.call c.in_err-a.field-0.0 c.in_err-a.ensures
 
 pub returns-in_err-b : goal.returns-in_err-b
 returns-in_err-b g c =
-    let p = err_from_is_err_and c.from_residual-in_err-b.result c.from_residual-in_err-b.ensures.1 in
-    p.1 ∙ ap Err p.2 ∙
+    passed _ c.from_residual-in_err-b.ensures.1 ∙
     watched_second (g.P.Policy.meaning c.args.self.now.first) (g.Q.Policy.meaning c.args.self.now.second) c.args.call c.in_err-b.field-0.0 c.in_err-b.ensures
 
 pub returns-then-a : goal.returns-then-a

@@ -1,15 +1,13 @@
-use Rattle.std.proofs.Common.{◌≡◌, ◌+◌, Ok, Err, ap, ◌∙◌, inl, inr, arith}
+use Rattle.std.proofs.Common.{◌≡◌, ◌+◌, Ok, ap, ◌∙◌, inl, inr, arith}
 use Rattle.std.proofs.lemmas.Bool.{cases_eq}
-use Rattle.std.proofs.lemmas.Result.{err_from_is_err_and}
 use Rattle.model.specs.Kinds.{pair_automaton, pair_block}
 use Rattle.model.proofs.PairBlocks.{pair_showing}
-use Rattle.policy.proofs.Asked.{block_refused, block_allowed}
 use Rattle.policy.proofs.Pairs.{pair_length, pair_writes}
+use Rattle.policy.proofs.Asked.{passed, block_refused, block_allowed}
 use Rattle.policy.proofs.pair.PairPolicy.write_block.Goals as goal
 
 pub returns-in_err-may_write : goal.returns-in_err-may_write
 returns-in_err-may_write g c =
-    let r = err_from_is_err_and c.from_residual.result c.from_residual.ensures.1 in
     let p = c.args.self.now.first in
     let q = c.args.self.now.second in
     let A = g.P.Policy.meaning p in
@@ -17,20 +15,7 @@ returns-in_err-may_write g c =
     let S = pair_showing A C (g.P.Policy.blocks p) (g.Q.Policy.blocks q) (g.P.Policy.shows p) (g.Q.Policy.shows q) in
     let h = block_refused (pair_automaton A C) (pair_block A.width (g.P.Policy.blocks p) (g.Q.Policy.blocks q)) S c.args.call c.args.moment c.args.first
     c.args.area.now c.in_err-may_write.field-0.0 (rw (c.block_len-n.ensures, c.width.ensures) at c.in_err-may_write.ensures) in
-    record { answer = r.1 ∙ ap Err r.2 ∙ h.0; area = h.1 }
-
-pub write_behind-requires : goal.write_behind-requires
-write_behind-requires g c =
-    let p = c.args.self.now.first in
-    let q = c.args.self.now.second in
-    let A = g.P.Policy.meaning p in
-    let C = g.Q.Policy.meaning q in
-    let S = pair_showing A C (g.P.Policy.blocks p) (g.Q.Policy.blocks q) (g.P.Policy.shows p) (g.Q.Policy.shows q) in
-    let w = block_allowed (pair_automaton A C) (pair_block A.width (g.P.Policy.blocks p) (g.Q.Policy.blocks q)) S c.args.call c.args.moment c.args.first
-    c.args.area.now (rw (c.block_len-n.ensures, c.width.ensures) at c.in_ok-may_write.ensures) in
-    let n = pair_length A C (g.P.Policy.blocks p) (g.Q.Policy.blocks q) (g.P.Policy.shows p) (g.Q.Policy.shows q) c.args.call c.args.moment c.args.first in
-    let room = w.room in
-    omega arith
+    record { answer = passed _ c.from_residual.ensures.1 ∙ h.0; area = h.1 }
 
 pub returns : goal.returns
 returns g c =
