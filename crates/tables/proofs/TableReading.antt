@@ -1,79 +1,51 @@
 -- The reading of state tables, field by field.
-use Rattle.std.proofs.Common.{◌≡◌, ℕ, zero, suc, ◌+◌, ◌-◌, ◌*◌, ◌<◌, ◌≤◌, Bool, true, false, cond, not, ◌&&◌, ◌||◌, eqb, ltb, leb, List, [], ◌∷◌, length, get_or, take, drop, Ok, Err, sym, refl, ap, ◌∙◌, subst, ap₂, add-zero, mul-le-mul_left, zero-add, mul-suc, add-one, arith, length-drop}
-use native.Mathlib.Nat.{mul-div-le, div-eq_of_eq-mul_right}
-use Rattle.std.proofs.lemmas.List.{get_or-drop, drop-drop, drop_all, take_rest, length-take-le}
-use Rattle.std.proofs.lemmas.Bool.{true≢false, le-leb, lt-leb, lt-ltb, le-ltb, ltb-true, ltb-false, eqb-true, eq-eqb, and_right}
+use Rattle.std.proofs.Common.{◌≡◌, ℕ, zero, suc, ◌+◌, ◌-◌, ◌*◌, ◌/◌, ◌<◌, ◌≤◌, Bool, true, false, cond, not, ◌&&◌, ◌||◌, eqb, ltb, List, [], ◌∷◌, ◌++◌, map, length, get_or, take, drop, Some, None, Ok, Err, Option, sym, refl, ap, ◌∙◌, subst, ap₂, add-zero, mul-suc, mul-le-mul_left, zero-add, arith, length-drop}
+use lib.ListN.{length-map}
+use Rattle.std.proofs.Math.Nat.{mul-div-le, div-le_self}
+use Rattle.std.proofs.lemmas.List.{get_or-map, drop_all, drop_more, take_more}
+use Rattle.std.proofs.lemmas.List.Folds.{list_any-append}
+use Rattle.std.proofs.lemmas.List.FromFn.{length-enumerate_from, get_or-enumerate_from}
+use Rattle.std.proofs.lemmas.Iterator.{YieldsList}
+use Rattle.std.proofs.lemmas.Iterator.Consumers.{YieldsList-from_first, YieldsList-from_enumerate, YieldsList-turn, YieldsList-end}
+use Rattle.std.specs.Iterator.{Yields, YieldsFirstBy}
+use Rattle.std.specs.Iterator.Adapters.{enumerate_source, enumerate_count, enumerate_steps}
+use Rattle.std.specs.List.{enumerate_from}
+use Rattle.std.specs.declared.iter.Enumerate.{Enumerate}
+use Rattle.std.proofs.lemmas.List.Recursion.{same_from_clauses}
+use Rattle.std.specs.List.{list_all, list_any}
+use Rattle.std.proofs.lemmas.Bool.{le-leb, lt-leb, eqb-true, eq-eqb}
 use Rattle.model.specs.declared.Refusal.{Refusal}
 use Rattle.model.specs.declared.Refusal.TheVariants.{BadPolicyField, BadPolicySize, SecondRow}
-use Rattle.model.specs.Words.{word}
-use Rattle.model.specs.Fields.{Read, Part, Field, refuse, need, within, every, next, a_tag, announced, contents_at, standing, broken, found, expect, fields, ◌>>=◌, ◌>>◌}
+use Rattle.model.specs.Fields.{Read, Part, Field, need, within, every, next, announced, expect, fields, ◌>>=◌, ◌>>◌}
 use Rattle.model.specs.declared.Moment.{Moment}
-use Rattle.model.specs.Moments.{moment_of}
-use Rattle.model.specs.Files.{all_below}
 use Rattle.model.specs.Tables.{Row, Table, row_in, row_for, row_field, read_rows, table_answer}
-use Rattle.model.proofs.Accepted.{bound, needed}
+use Rattle.model.proofs.Accepted.{err_ok, bound, needed, within_true}
 use Rattle.model.proofs.PolicyAccepted.{all_four}
 use Rattle.model.proofs.Parts.{parts_of_files}
 use Rattle.model.proofs.TableFiles.{Laid, laid_fields}
-use Rattle.tlv.specs.Parts.{Due, contents, missing, due}
-use Rattle.tables.specs.Reading.{due_contents, row_well, rows_answer, head_well, head_states, row_in_file, fresh, apart_from, row_count}
+use Rattle.policy.specs.Pieces.{Found, found, piece_of, due_piece}
+use Rattle.policy.proofs.Places.{piece_next}
+use Rattle.tables.specs.Reading.{due_contents, row_well, rows_answer, head_well, head_states, apart_from}
+use Rattle.tables.specs.declared.row.Row.{Row as ReadRow}
+use Rattle.tables.specs.declared.row.Rows.{Rows}
+use Rattle.tables.specs.Rows.{shown, rows_of, rows_left}
+use Rattle.tables.proofs.TableRows.{rows_in-length, rows_are}
 use Rattle.policy.proofs.Asked.{clash, same}
 
 -- ---- the field that is due
 
--- what the field reader hands out, as it is read
-abbrev pub seen : Due → Read (List ℕ)
-seen (contents c) = Ok c
-seen (missing q) = Err (BadPolicyField q)
+-- the contents of a field that was read, and why one was refused
+pub told_contents : (r : Read Part) (c : List ℕ) (n : ℕ) → Ok (record { contents = c; next = n }) ≡ piece_of r → Ok c ≡ (r >>= (λ m. Ok m.contents))
+unfolding ◌>>=◌
+told_contents (Ok m) c n e =
+    let z : ◌≡◌ {A = Found} (record { contents = c; next = n }) (found m) = cc in
+    ap (λ x. Ok x.contents) z
+told_contents (Err x) c n e = absurd (err_ok (sym e))
 
-module _ (tag p : ℕ) where
-  -- the contents of a part
-  abbrev told : Read Part → Read (List ℕ)
-  told x = x >>= (λ m. Ok m.contents)
-
-  by_tests : (lt tagged fits : Bool) (t : ℕ) (c r : List ℕ) → (lt ≡ true → fits ≡ false) → (lt ≡ false → fits ≡ true) → (tagged ≡ false → eqb t tag ≡ false) →
-      seen (due tag p (cond lt (broken p) (cond tagged (found t p c) (broken p)))) ≡
-      told (cond (eqb t tag && fits) (Ok (record { place = p; contents = c; rest = r })) (refuse (BadPolicyField p)))
-  unfolding ◌>>=◌
-  by_tests true tagged fits t c r a b d = rw (and_right (eqb t tag) fits (a refl))
-  by_tests false false fits t c r a b d = rw (d refl)
-  by_tests false true fits t c r a b d = rw (b refl) (go (eqb t tag))
-    where
-      go : (e : Bool) → seen (cond e (contents c) (missing p)) ≡ told (cond (e && true) (Ok (record { place = p; contents = c; rest = r })) (refuse (BadPolicyField p)))
-      go true = refl
-      go false = refl
-
-  byte_at : (f r : List ℕ) (j : ℕ) → r ≡ drop p f → get_or f (p + j) 0 ≡ get_or r j 0
-  byte_at f r j e = sym (get_or-drop p f j 0) ∙ ap (λ x. get_or x j 0) (sym e)
-
-  due_is : a_tag tag ≡ true → (f r : List ℕ) → r ≡ drop p f → seen (due tag p (standing f p)) ≡ told (expect BadPolicyField tag p r)
-  unfolding ◌>>=◌ expect
-  due_is k f [] e = let l = ap length e ∙ length-drop p f in rw (le-leb (length f) p (omega arith))
-  due_is k f (t ∷ []) e = let l = ap length e ∙ length-drop p f in rw (lt-leb (length f) p (omega arith), lt-ltb (length f - p) 3 (omega arith))
-  due_is k f (t ∷ h ∷ []) e = let l = ap length e ∙ length-drop p f in rw (lt-leb (length f) p (omega arith), lt-ltb (length f - p) 3 (omega arith))
-  due_is k f (t ∷ h ∷ l ∷ r) e =
-      let z = ap length e ∙ length-drop p f in
-      let n : announced f p ≡ word h l = ap₂ word (byte_at f (t ∷ h ∷ l ∷ r) 1 e) (byte_at f (t ∷ h ∷ l ∷ r) 2 e) in
-      let b : get_or f p 0 ≡ t = ap (λ i. get_or f i 0) (sym (add-zero p)) ∙ byte_at f (t ∷ h ∷ l ∷ r) 0 e in
-      let d : r ≡ drop (p + 3) f = ap (drop 3) e ∙ drop-drop 3 p f in
-      let c : contents_at f p ≡ take (word h l) r = ap₂ take n (sym d) in
-      let m : length f - p - 3 ≡ length r = omega arith in
-      let s : standing f p ≡ cond (ltb (length r) (word h l)) (broken p) (cond (a_tag t) (found t p (take (word h l) r)) (broken p)) =
-      rw (lt-leb (length f) p (omega arith), le-ltb (length f - p) 3 (omega arith))
-      (λ i. cond (ltb (m i) (n i)) (broken p) (cond (a_tag (b i)) (found (b i) p (c i)) (broken p))) in
-      ap (λ x. seen (due tag p x)) s ∙
-      (by_tests (ltb (length r) (word h l)) (a_tag t) (leb (word h l) (length r)) t (take (word h l) r) (drop (word h l) r)
-      (λ y. lt-leb (word h l) (length r) (ltb-true _ _ y)) (λ y. le-leb (word h l) (length r) (ltb-false _ _ y)) other)
-    where
-      other : a_tag t ≡ false → eqb t tag ≡ false
-      other y = go (eqb t tag) refl
-        where
-          go : (q : Bool) → eqb t tag ≡ q → q ≡ false
-          go true i = absurd (true≢false (sym k ∙ ap a_tag (sym (eqb-true t tag i)) ∙ y))
-          go false i = refl
-
-  pub due_read : a_tag tag ≡ true → (f : List ℕ) (d : Due) → d ≡ due tag p (standing f p) → seen d ≡ due_contents tag p f
-  due_read k f d e = ap seen e ∙ due_is k f (drop p f) refl
+pub told_refusal : (r : Read Part) (x : Refusal) → Err x ≡ piece_of r → Err x ≡ (r >>= (λ m. Ok m.contents))
+unfolding ◌>>=◌
+told_refusal (Ok m) x e = absurd (err_ok e)
+told_refusal (Err y) x e = let z : x ≡ y = cc in ap Err z
 
 -- a field that was read, whole
 pub whole : (tag p : ℕ) (f c : List ℕ) → Ok c ≡ due_contents tag p f →
@@ -86,9 +58,6 @@ whole tag p f c h =
     let k : length c ≡ announced f p = ap length (sym z ∙ w.contents) ∙ w.stands.sized in
     let ends = w.stands.ends in
     (m, e₁, z, j, w.rest ∙ ap (λ i. drop i f) j, omega arith)
-
-pub inside : (tag p : ℕ) (f c : List ℕ) → Ok c ≡ due_contents tag p f → p + 3 + length c ≤ length f
-inside tag p f c h = let w = whole tag p f c h in omega (arith, w.5)
 
 -- ---- rows
 
@@ -164,6 +133,23 @@ module _ (n p : ℕ) (f : List ℕ) where
         go [] z e = absurd (omega arith)
         go (b ∷ r) z e = rw (e, y') (kept _ (fields m 98 (row_field n) (next w.0) w.0.rest) ∙ ap₂ (λ q s. done (fields m 98 (row_field n) q s)) w.3 w.4)
 
+-- the same, by what the field reader hands out of a holder g, which is the file
+module _ (n p : ℕ) (f g : List ℕ) (tag : ℕ) (held : g ≡ f) (row : tag ≡ 98) (l : p < length g) where
+  pub row_refused : (m : ℕ) (x : Refusal) → Err x ≡ due_piece tag p g → Err x ≡ rows_answer m n p f
+  row_refused m x e = rows_broken n p f m x (rw held at l) (told_refusal _ x (rw (held, row) at e))
+
+  module _ (c : List ℕ) (next : ℕ) (e : Ok (record { contents = c; next = next }) ≡ due_piece tag p g) where
+    pub row_many : Err (BadPolicySize p) ≡ rows_answer 0 n p f
+    row_many = rows_many n p f c (told_contents _ c next (rw (held, row) at e)) (rw held at l)
+
+    pub row_bad : (m : ℕ) → row_well n c ≡ false → Err (BadPolicySize p) ≡ rows_answer m n p f
+    row_bad m y = rows_bad n p f c (told_contents _ c next (rw (held, row) at e)) m (rw held at l) y
+
+    pub row_more : (m : ℕ) → row_well n c ≡ true → rows_answer (suc m) n p f ≡ rows_answer m n next f
+    row_more m y =
+        rows_more n p f c (told_contents _ c next (rw (held, row) at e)) m (rw held at l) y ∙
+        ap (λ q. rows_answer m n q f) (sym (piece_next f 98 p c next (rw (held, row) at e)))
+
 -- ---- the head
 
 -- the number of states, by the head's contents
@@ -185,89 +171,113 @@ module _ (f : List ℕ) where
 
 -- ---- a row
 
-pub row_well_by : (n : ℕ) (c : List ℕ) (b : Bool) → length c ≡ 2 + n → get_or c 0 0 ≤ 63 → get_or c 1 0 ≤ 2 → b ≡ every (λ q. ltb q n || eqb q 255) (take (length c - 2) (drop 2 c)) → b ≡ row_well n c
-row_well_by n c b l h k e = e ∙ ap (every (λ q. ltb q n || eqb q 255)) (take_rest c 2) ∙ rw (eq-eqb (length c) (2 + n) l, le-leb (get_or c 0 0) 63 h, le-leb (get_or c 1 0) 2 k)
+abbrev pub known_state : ℕ → ℕ → Bool
+known_state n q = ltb q n || eqb q 255
 
--- ---- rows by their number
+pub row_well_by : (n : ℕ) (c : List ℕ) (b : Bool) → length c ≡ 2 + n → get_or c 0 0 ≤ 63 → get_or c 1 0 ≤ 2 → b ≡ list_all (known_state n) (drop 2 c) → b ≡ row_well n c
+row_well_by n c b l h k e =
+    e ∙ same_from_clauses (list_all (known_state n)) (every (known_state n)) (λ q t. known_state n q && t) refl (λ _ _. refl) (λ _ _. refl) (drop 2 c) ∙
+    rw (eq-eqb (length c) (2 + n) l, le-leb (get_or c 0 0) 63 h, le-leb (get_or c 1 0) 2 k)
 
-pub row_long : (n i : ℕ) (f : List ℕ) → 6 + (5 + n) * i + (5 + n) ≤ length f → length (take (2 + n) (drop (9 + (5 + n) * i) f)) ≡ 2 + n
-row_long n i f h = length-take-le (2 + n) (drop (9 + (5 + n) * i) f) (omega (arith, length-drop (9 + (5 + n) * i) f))
+-- ---- rows that are for calls and moments of their own
 
--- a row before one that lies in the file lies in it too
-pub row_before : (n i j size : ℕ) → 6 + (5 + n) * i + (5 + n) ≤ size → j < i → 6 + (5 + n) * j + (5 + n) ≤ size
-row_before n i j size h l = omega (arith, mul-suc (5 + n) j, mul-le-mul_left {m = suc j} {n = i} (5 + n) (omega arith))
+module _ (n i : ℕ) (rows : List Row) where
+  pub apart_end : length rows ≤ i → Ok tt ≡ apart_from n i (take i rows) (drop i rows)
+  apart_end h = rw (drop_all i rows h)
+
+  module _ (r : Row) (h : i < length rows) (e : r ≡ get_or rows i r) where
+    here : (b : Bool) → list_any (row_for r.call r.moment) (take i rows) ≡ b →
+        apart_from n i (take i rows) (drop i rows) ≡ cond b (Err (SecondRow (6 + (5 + n) * i))) (apart_from n (i + 1) (take (i + 1) rows) (drop (i + 1) rows))
+    here b y =
+        let t : take (i + 1) rows ≡ take i rows ++ r ∷ [] = take_more rows i r h ∙ ap (λ x. take i rows ++ x ∷ []) (sym e) in
+        ap (apart_from n i (take i rows)) (drop_more rows i r h ∙ ap (λ x. x ∷ drop (i + 1) rows) (sym e)) ∙
+        ap₂ (λ b before. cond b (Err (SecondRow (6 + (5 + n) * i))) (apart_from n (i + 1) before (drop (i + 1) rows))) y (sym t)
+
+    pub apart_more : false ≡ list_any (row_for r.call r.moment) (take i rows) →
+        apart_from n i (take i rows) (drop i rows) ≡ apart_from n (i + 1) (take (i + 1) rows) (drop (i + 1) rows)
+    apart_more y = here false (sym y)
+
+    pub apart_second : true ≡ list_any (row_for r.call r.moment) (take i rows) → Err (SecondRow (6 + (5 + n) * i)) ≡ apart_from n i (take i rows) (drop i rows)
+    apart_second y = sym (here true (sym y))
+
+module _ (start : Enumerate Rows) (rows : List Row) (e : rows_left (enumerate_source start) ≡ rows) (z : enumerate_count start ≡ 0) where
+  -- the rows with their numbers
+  pub numbered : YieldsList {B = ℕ × Row} (enumerate_steps (YieldsFirstBy shown rows_left)) (λ p. (p.0, shown p.1)) start (enumerate_from 0 rows)
+  numbered = YieldsList-from_enumerate (YieldsList-from_first shown rows_left rows e) z
+
+  -- a row that comes with its number
+  pub numbered_turn : (ys : List (ℕ × ReadRow)) (s : Enumerate Rows) → Yields (enumerate_steps (YieldsFirstBy shown rows_left)) start ys s →
+      (o : Option (ℕ × ReadRow)) (t : Enumerate Rows) (i : ℕ) (r : ReadRow) → o ≡ Some (i, r) → enumerate_steps (YieldsFirstBy shown rows_left) s o t →
+      (length ys < length rows) × (i ≡ length ys) × (shown r ≡ get_or rows (length ys) (shown r))
+  numbered_turn ys s y o t i r is step =
+      let h = YieldsList-turn numbered ys s y o t (i, r) is step in
+      let l : length ys < length rows = omega (arith, length-enumerate_from 0 rows, h.0) in
+      let e = h.1 ∙ get_or-enumerate_from 0 rows (length ys) (i, shown r) l in
+      (l, ap (λ p. p.0) e ∙ zero-add (length ys), ap (λ p. p.1) e)
+
+  pub numbered_end : (ys : List (ℕ × ReadRow)) (s : Enumerate Rows) → Yields (enumerate_steps (YieldsFirstBy shown rows_left)) start ys s →
+      (o : Option (ℕ × ReadRow)) (t : Enumerate Rows) → o ≡ None → enumerate_steps (YieldsFirstBy shown rows_left) s o t → length rows ≤ length ys
+  numbered_end ys s y o t is step = omega (arith, (YieldsList-end numbered ys s y o t is step).1, length-enumerate_from 0 rows)
 
 -- so many rows as there is room for lie in the file
-pub row_room : (n i : ℕ) (f : List ℕ) → 6 ≤ length f → i < row_count n f → 6 + (5 + n) * i + (5 + n) ≤ length f
+pub row_room : (n i : ℕ) (f : List ℕ) → 6 ≤ length f → i < length (rows_of n f) → 6 + (5 + n) * i + (5 + n) ≤ length f
 row_room n i f h l =
-    omega (arith, mul-suc (5 + n) i, mul-le-mul_left {m = suc i} {n = row_count n f} (5 + n) (omega arith), mul-div-le (length f - 6) (5 + n))
+    omega (
+      arith,
+      rows_in-length (5 + n) ((length f - 6) / (5 + n)) (drop 6 f),
+      mul-suc (5 + n) i,
+      mul-le-mul_left {m = suc i} {n = (length f - 6) / (5 + n)} (5 + n) (omega (arith, rows_in-length (5 + n) ((length f - 6) / (5 + n)) (drop 6 f))),
+      mul-div-le (length f - 6) (5 + n),
+    )
 
--- one row more
-module _ (n i : ℕ) (f : List ℕ) (l : i < row_count n f) where
-  less : row_count n f - i ≡ suc (row_count n f - (i + 1))
-  less = omega arith
+-- there are no more rows than bytes
+pub rows_few : (n : ℕ) (f : List ℕ) → length (rows_of n f) ≤ length f
+rows_few n f = omega (arith, rows_in-length (5 + n) ((length f - 6) / (5 + n)) (drop 6 f), div-le_self (length f - 6) (5 + n))
 
-  pub apart_more : fresh n f i ≡ true → apart_from n f i (row_count n f - i) ≡ apart_from n f (i + 1) (row_count n f - (i + 1))
-  apart_more y = ap (apart_from n f i) less ∙ rw y
+-- that rows were told apart
+abbrev told_apart : Read (List Row) → Read (Unit {0})
+told_apart r = r >>= (λ rs. Ok tt)
 
-  pub apart_second : fresh n f i ≡ false → Err (SecondRow (6 + (5 + n) * i)) ≡ apart_from n f i (row_count n f - i)
-  apart_second y = sym (ap (apart_from n f i) less ∙ rw y)
+-- a row that is read, the rows before being known
+read_row : (r : Row) (any : Bool) (q : ℕ) (rest : Read (List Row)) (other : Read (Unit {0})) → told_apart rest ≡ other →
+    told_apart (need (not any) (SecondRow q) >>= (λ u. rest >>= (λ rs. Ok (r ∷ rs)))) ≡ cond any (Err (SecondRow q)) other
+unfolding ◌>>=◌
+read_row r false q (Ok rs) other e = e
+read_row r false q (Err x) other e = e
+read_row r true q rest other e = refl
 
--- no row before is for that call and moment
-abbrev pub none_for : ℕ → List ℕ → ℕ → Moment → ℕ → Bool
-none_for n f k t i = all_below i (λ j. not (row_for k t (row_in_file n f j)))
+-- two lists of rows known before, that are for the same calls and moments
+abbrev SameRows : List Row → List Row → Type 0
+SameRows known before = (k : ℕ) (t : Moment) → every (λ s. not (row_for k t s)) known ≡ not (list_any (row_for k t) before)
 
-module _ (n : ℕ) (f : List ℕ) where
-  -- the rows before row i, the last one first
-  abbrev known_rows : ℕ → List Row
-  known_rows zero = []
-  known_rows (suc i) = row_in_file n f i ∷ known_rows i
+same_more : (known before : List Row) (r : Row) → SameRows known before → SameRows (r ∷ known) (before ++ r ∷ [])
+same_more known before r h k t =
+    ap (λ b. not (row_for k t r) && b) (h k t) ∙ both (row_for k t r) (list_any (row_for k t) before) ∙ ap not (sym (list_any-append (row_for k t) before (r ∷ [])))
+  where
+    both : (b a : Bool) → (not b && not a) ≡ not (a || (b || false))
+    both true true = refl
+    both true false = refl
+    both false true = refl
+    both false false = refl
 
-  every_known : (k : ℕ) (t : Moment) (i : ℕ) → every (λ s. not (row_for k t s)) (known_rows i) ≡ none_for n f k t i
-  every_known k t zero = refl
-  every_known k t (suc i) = ap (λ b. not (row_for k t (row_in_file n f i)) && b) (every_known k t i)
-
-  -- that rows were told apart
-  abbrev told_apart : Read (List Row) → Read (Unit {0})
-  told_apart r = r >>= (λ rs. Ok tt)
-
-  -- fields that hold the rows from row i on
-  record Holding (i : ℕ) (xs : List Field) : Type 0 where
-    contents : (j : ℕ) (d : Field) → j < length xs → (get_or xs j d).contents ≡ take (2 + n) (drop (9 + (5 + n) * (i + j)) f)
-    place : (j : ℕ) (d : Field) → j < length xs → (get_or xs j d).place ≡ 6 + (5 + n) * (i + j)
-
-  holding_rest : (i : ℕ) (x : Field) (xs : List Field) → Holding i (x ∷ xs) → Holding (i + 1) xs
-  holding_rest i x xs h = record {
-    contents = λ j d l. h.contents (suc j) d (omega arith) ∙ ap (λ m. take (2 + n) (drop (9 + (5 + n) * m) f)) (omega arith);
-    place = λ j d l. h.place (suc j) d (omega arith) ∙ ap (λ m. 6 + (5 + n) * m) (omega arith);
-  }
-
-  one_row : (r : Row) (b : Bool) (q : ℕ) (rest : Read (List Row)) (other : Read (Unit {0})) → told_apart rest ≡ other →
-      told_apart (need b (SecondRow q) >>= (λ u. rest >>= (λ rs. Ok (r ∷ rs)))) ≡ cond b other (Err (SecondRow q))
-  unfolding ◌>>=◌
-  one_row r true q (Ok rs) other e = e
-  one_row r true q (Err x) other e = e
-  one_row r false q rest other e = refl
-
-  apart_rows : (i : ℕ) (xs : List Field) → Holding i xs → told_apart (read_rows (known_rows i) xs) ≡ apart_from n f i (length xs)
-  unfolding ◌>>=◌
-  apart_rows i [] h = refl
-  apart_rows i (x ∷ xs) h =
-      let c : x.contents ≡ take (2 + n) (drop (9 + (5 + n) * i) f) = h.contents 0 x (omega arith) ∙ ap (λ m. take (2 + n) (drop (9 + (5 + n) * m) f)) (add-zero i) in
-      let r : row_in x.contents ≡ row_in_file n f i = ap row_in c in
-      let q : x.place ≡ 6 + (5 + n) * i = h.place 0 x (omega arith) ∙ ap (λ m. 6 + (5 + n) * m) (add-zero i) in
-      let ih = apart_rows (i + 1) xs (holding_rest i x xs h) in
-      let rest : told_apart (read_rows (row_in x.contents ∷ known_rows i) xs) ≡ apart_from n f (i + 1) (length xs) =
-      ap (λ s. told_apart (read_rows (s ∷ known_rows i) xs)) r ∙ ap (λ m. told_apart (read_rows (known_rows m) xs)) (sym (add-one i)) ∙ ih in
-      one_row (row_in x.contents) _ x.place (read_rows (row_in x.contents ∷ known_rows i) xs) (apart_from n f (i + 1) (length xs)) rest ∙
-      ap₂ (λ b p. cond b (apart_from n f (i + 1) (length xs)) (Err (SecondRow p)))
-      (ap (λ s. every (λ o. not (row_for s.call s.moment o)) (known_rows i)) r ∙ every_known (row_in_file n f i).call (row_in_file n f i).moment i) q
+apart_rows : (n i : ℕ) (known before : List Row) (xs : List Field) → SameRows known before → ((j : ℕ) (d : Field) → j < length xs → (get_or xs j d).place ≡ 6 + (5 + n) * (i + j)) →
+    told_apart (read_rows known xs) ≡ apart_from n i before (map (λ x. row_in x.contents) xs)
+unfolding ◌>>=◌
+apart_rows n i known before [] h p = refl
+apart_rows n i known before (x ∷ xs) h p =
+    let r = row_in x.contents in
+    let q : x.place ≡ 6 + (5 + n) * i = p 0 x (omega arith) ∙ ap (λ m. 6 + (5 + n) * m) (add-zero i) in
+    let ih = apart_rows n (i + 1) (r ∷ known) (before ++ r ∷ []) xs (same_more known before r h)
+    (λ j d l. p (suc j) d (omega arith) ∙ ap (λ m. 6 + (5 + n) * m) (omega arith)) in
+    ap (λ b. told_apart (need b (SecondRow x.place) >>= (λ u. read_rows (r ∷ known) xs >>= (λ rs. Ok (r ∷ rs))))) (h r.call r.moment) ∙
+    read_row r _ x.place (read_rows (r ∷ known) xs) _ ih ∙
+    ap (λ p. cond (list_any (row_for r.call r.moment) before) (Err (SecondRow p)) (apart_from n (i + 1) (before ++ r ∷ []) (map (λ x. row_in x.contents) xs))) q
 
 -- ---- the whole file
 
 -- the head of a file that has one
 pub head_is : (f : List ℕ) (n : ℕ) → Ok n ≡ head_states f →
-    (h : Part) × (expect BadPolicyField 97 0 f ≡ Ok h) × (head_well h.contents ≡ true) × (get_or h.contents 1 0 ≡ n) × (next h ≡ 6) × (h.rest ≡ drop 6 f) × (6 ≤ length f)
+    (h : Part) × (expect BadPolicyField 97 0 f ≡ Ok h) × (head_well h.contents ≡ true) × (get_or h.contents 1 0 ≡ n) × (next h ≡ 6) × (h.rest ≡ drop 6 f) × (6 ≤ length f) × (n ≤ 16)
 head_is f n e =
     bound _ _ _ (sym e) λ c e₁ e.
     needed _ _ _ _ e λ y e.
@@ -276,7 +286,7 @@ head_is f n e =
     let l : length c ≡ 3 = eqb-true _ _ t.0 in
     let z : get_or c 1 0 ≡ n = cc in
     let k : 0 + (3 + length c) ≡ 6 = omega arith in
-    (w.0, w.1, ap head_well w.2 ∙ y, ap (λ c. get_or c 1 0) w.2 ∙ z, w.3 ∙ k, w.4 ∙ ap (λ i. drop i f) k, omega (arith, w.5))
+    (w.0, w.1, ap head_well w.2 ∙ y, ap (λ c. get_or c 1 0) w.2 ∙ z, w.3 ∙ k, w.4 ∙ ap (λ i. drop i f) k, omega (arith, w.5), omega (arith, within_true 1 16 (get_or c 1 0) t.2))
 
 module _ (f : List ℕ) where
   pub answer_long : 65535 < length f → Err (BadPolicyField 0) ≡ table_answer f
@@ -303,12 +313,6 @@ module _ (f : List ℕ) where
         go (Ok h) e = by (head_well h.contents) (get_or h.contents 1 0) _ e
         go (Err y) e = same e
 
--- the test of two rows, by their bytes
-pub test_is : (n : ℕ) (f : List ℕ) (i j : ℕ) (a b : List ℕ) (w : Moment) → a ≡ take (2 + n) (drop (9 + (5 + n) * i) f) → w ≡ moment_of (get_or a 1 0) →
-    b ≡ take (2 + n) (drop (9 + (5 + n) * j) f) → row_for (get_or a 0 0) w (row_in b) ≡ row_for (row_in_file n f i).call (row_in_file n f i).moment (row_in_file n f j)
-test_is n f i j a b w e m d =
-    ap (λ t. row_for (get_or a 0 0) t (row_in b)) m ∙ ap₂ (λ a b. row_for (get_or a 0 0) (moment_of (get_or a 1 0)) (row_in b)) e d
-
 -- a table of its parts
 abbrev table_by : ℕ → ℕ → List Row → Table
 table_by m s rs = record { states = m; start = s; rows = rs }
@@ -322,7 +326,7 @@ abbrev told_table : ℕ → ℕ → Read (List Row) → Read (Unit {0})
 told_table m s r = (r >>= (λ rs. Ok (table_by m s rs))) >>= (λ t. Ok tt)
 
 module _ (f : List ℕ) (short : length f ≤ 65535) (n : ℕ) (e : Ok n ≡ head_states f) where
-  head : (h : Part) × (expect BadPolicyField 97 0 f ≡ Ok h) × (head_well h.contents ≡ true) × (get_or h.contents 1 0 ≡ n) × (next h ≡ 6) × (h.rest ≡ drop 6 f) × (6 ≤ length f)
+  head : (h : Part) × (expect BadPolicyField 97 0 f ≡ Ok h) × (head_well h.contents ≡ true) × (get_or h.contents 1 0 ≡ n) × (next h ≡ 6) × (h.rest ≡ drop 6 f) × (6 ≤ length f) × (n ≤ 16)
   head = head_is f n e
 
   answer_is : table_answer f ≡ told_rows (get_or head.0.contents 1 0) (get_or head.0.contents 2 0) (fields 64 98 (row_field n) 6 (drop 6 f))
@@ -339,23 +343,25 @@ module _ (f : List ℕ) (short : length f ≤ 65535) (n : ℕ) (e : Ok n ≡ hea
       go (Ok xs) h = clash h
       go (Err y) h = h
 
-  pub answer_apart : Ok tt ≡ rows_answer 64 n 6 f → apart_from n f 0 (row_count n f) ≡ table_answer f
+  pub answer_apart : Ok tt ≡ rows_answer 64 n 6 f → apart_from n 0 [] (rows_of n f) ≡ table_answer f
   unfolding ◌>>=◌
   answer_apart h = go (fields 64 98 (row_field n) 6 (drop 6 f)) refl h ∙ sym answer_is
     where
-      kept : (m s : ℕ) (r : Read (List Row)) → told_apart n f r ≡ told_table m s r
+      kept : (m s : ℕ) (r : Read (List Row)) → told_apart r ≡ told_table m s r
       kept m s (Ok rs) = refl
       kept m s (Err y) = refl
 
-      apart : (xs : List Field) → Laid f n 6 xs → apart_from n f 0 (row_count n f) ≡ told_apart n f (read_rows [] xs)
+      apart : (xs : List Field) → Laid f n 6 xs → apart_from n 0 [] (rows_of n f) ≡ told_apart (read_rows [] xs)
       apart xs l =
-          let c : row_count n f ≡ length xs = div-eq_of_eq-mul_right (omega arith) (omega (arith, l.size)) in
-          ap (apart_from n f 0) c ∙ sym (apart_rows n f 0 xs (record {
-            contents = λ j d k. l.contents j d k ∙ ap (λ m. take (2 + n) (drop m f)) (omega (arith, ap (λ m. (5 + n) * m) (zero-add j)));
-            place = λ j d k. l.place j d k ∙ omega (arith, ap (λ m. (5 + n) * m) (zero-add j));
-          }))
+          let read : List Row = map (λ x. row_in x.contents) xs in
+          let long : length read ≡ length xs = length-map xs (λ x. row_in x.contents) in
+          let x : Field = record { place = 0; contents = [] } in
+          ap (apart_from n 0 [])
+          (rows_are n f read (ap (λ m. 6 + (5 + n) * m) long ∙ l.size)
+          (λ j d k. get_or-map (λ x. row_in x.contents) xs j x d (omega arith) ∙ ap row_in (l.contents j x (omega arith)))) ∙
+          sym (apart_rows n 0 [] [] xs (λ k t. refl) (λ j d k. l.place j d k ∙ omega (arith, ap (λ m. (5 + n) * m) (zero-add j))))
 
       go : (r : Read (List Field)) → fields 64 98 (row_field n) 6 (drop 6 f) ≡ r → Ok tt ≡ done r →
-          apart_from n f 0 (row_count n f) ≡ told_rows (get_or head.0.contents 1 0) (get_or head.0.contents 2 0) r
+          apart_from n 0 [] (rows_of n f) ≡ told_rows (get_or head.0.contents 1 0) (get_or head.0.contents 2 0) r
       go (Ok xs) q h = apart xs (laid_fields f n 64 6 (drop 6 f) xs head.6 refl q) ∙ kept (get_or head.0.contents 1 0) (get_or head.0.contents 2 0) (read_rows [] xs)
       go (Err y) q h = clash (sym h)

@@ -1,14 +1,19 @@
 -- Rows of state tables, their steps and their blocks.
-use Rattle.std.proofs.Common.{◌≡◌, ℕ, ◌+◌, ◌<◌, ◌≤◌, Bool, true, false, cond, eqb, ◌⊎◌, List, [], ◌∷◌, ◌++◌, length, get_or, take, drop, set, ℤ, pos, negsuc, nat_abs, Some, None, sym, refl, ap, ◌∙◌, inl, inr, append_assoc, arith, length-append}
-use lib.Signed.{lt_z}
-use Rattle.std.proofs.lemmas.List.{at_drop_more, at_drop_all, drop_more, get_or_past, get_or_default}
-use Rattle.std.proofs.lemmas.Bool.{ne_eqb, eq-eqb, false≢true, cases_lt}
+use Rattle.std.proofs.Common.{◌≡◌, ℕ, zero, suc, ◌+◌, ◌-◌, ◌*◌, ◌/◌, ◌<◌, ◌≤◌, Bool, true, false, cond, eqb, ◌||◌, ◌⊎◌, List, [], ◌∷◌, ◌++◌, length, get_or, take, drop, set, ℤ, pos, Some, None, Option, sym, refl, ap, ap₂, ◌∙◌, inl, inr, mul-suc, append_assoc, add-one, arith, length-append, filter, is_some}
+use Rattle.std.proofs.lemmas.List.{at_drop_more, at_drop_all, drop_more, take_at, drop_at, drop-take, drop-drop, ext_get_or}
+use Rattle.std.proofs.lemmas.Bool.{ne_eqb, cases_eq}
+use Rattle.std.proofs.Math.Nat.{add-div_left, div-eq_of_lt, div-eq_of_eq-mul_right}
+use Rattle.std.specs.List.{list_any, find}
+use Rattle.std.specs.Option.{option_map}
 use Rattle.model.specs.declared.Moment.{Moment}
-use Rattle.model.specs.Tables.{Row, row_in, row_of, has_row, row_for, from, moved_to, states_block}
+use Rattle.model.specs.Tables.{Row, Table, row_in, row_of, has_row, row_for, states_block}
 use Rattle.model.specs.Calls.{block_bytes}
 use Rattle.policy.specs.Calls.{put_at}
-use Rattle.tables.specs.Tables.{state_tests, no_row}
+use Rattle.tables.specs.States.{state_of, state_tests}
+use Rattle.tables.specs.declared.row.Row.{Row as ReadRow}
+use Rattle.tables.specs.Rows.{shown, rows_in, rows_of}
 use Rattle.policy.proofs.Writes.{put_behind, put_none, bytes_append}
+use Rattle.model.proofs.TableFiles.{TableFile}
 
 -- ---- steps
 
@@ -41,6 +46,19 @@ states_size f q (n ∷ ns) = let h = states_size f (q + 1) ns in go (eqb n 255) 
   where
     go : (b : Bool) → length (states_block f (q + 1) ns) ≡ row_size ns → length (cond b (states_block f (q + 1) ns)
         (state_tests f q n (length (states_block f (q + 1) ns)) ++ states_block f (q + 1) ns)) ≡ cond b 0 7 + row_size ns
+    go true h = omega arith
+    go false h = omega arith
+
+-- a byte of a row that tells a next state
+abbrev pub is_next : ℕ → Bool
+is_next b = is_some (state_of b)
+
+pub row_size_is : (ns : List ℕ) → row_size ns ≡ 1 + 7 * length (filter is_next ns)
+row_size_is [] = refl
+row_size_is (n ∷ ns) = let h = row_size_is ns in go (eqb n 255) h
+  where
+    go : (b : Bool) → row_size ns ≡ 1 + 7 * length (filter is_next ns) →
+        cond b 0 7 + row_size ns ≡ 1 + 7 * length (cond (is_some (cond b None (Some n))) (n ∷ filter is_next ns) (filter is_next ns))
     go true h = omega arith
     go false h = omega arith
 
@@ -102,37 +120,87 @@ finish ns f q at left old area new h is room w =
     is ∙ ap (λ x. put_at x at (block_bytes (states_block f q []))) w.is ∙ put_behind old w.done (block_bytes (states_block f q [])) at (sym w.to) room ∙
     ap (put_at old 0) (ap (λ y. w.done ++ y) (sym (at_drop_all (λ r. block_bytes (states_block f q r)) ns q h)) ∙ w.rest)
 
--- ---- how a row is looked up
+-- ---- the states that bytes tell
 
-module _ (rows : List Row) (i : ℕ) (row : List ℕ) (h : i < length rows) (e : row_in row ≡ get_or rows i no_row) where
-  pub row_here : (k : ℕ) (t : Moment) → row_for k t (row_in row) ≡ true → row_of (drop i rows) k t ≡ Some (drop 2 row)
-  row_here k t y = at_drop_more (λ rs. row_of rs k t) rows i no_row h ∙ rw (← e) (rw y)
-
-  pub row_not : (k : ℕ) (t : Moment) → row_for k t (row_in row) ≡ false → row_of (drop i rows) k t ≡ row_of (drop (i + 1) rows) k t
-  row_not k t y = at_drop_more (λ rs. row_of rs k t) rows i no_row h ∙ rw (← e) (rw y)
-
-  pub has_here : (k : ℕ) → get_or row 0 0 ≡ k → has_row k (drop i rows) ≡ true
-  has_here k y = at_drop_more (has_row k) rows i no_row h ∙ rw (← e) (rw (eq-eqb (get_or row 0 0) k y))
-
-  pub has_not : (k : ℕ) → (get_or row 0 0 ≡ k → ⊥) → has_row k (drop i rows) ≡ has_row k (drop (i + 1) rows)
-  has_not k y = at_drop_more (has_row k) rows i no_row h ∙ rw (← e) (rw (ne_eqb (get_or row 0 0) k y))
-
--- ---- the state behind a state
-
-pub from_none : (c : List ℤ) (ns : List ℕ) (z : ℤ) → lt_z z (pos 0) ≡ false → (nat_abs z < length ns → get_or ns (nat_abs z) 0 ≡ 255) → None ≡ from c ns z
-from_none c ns (pos v) h e = go (cases_lt v (length ns))
+pub none_told : (b : ℕ) → None ≡ state_of b → b ≡ 255
+none_told b e = go (cases_eq b 255)
   where
-    go : (v < length ns) ⊎ (length ns ≤ v) → None ≡ from c ns (pos v)
-    go (inl l) = sym (ap (moved_to c) (get_or_default ns v 255 0 l ∙ e l))
-    go (inr l) = sym (ap (moved_to c) (get_or_past ns v 255 l))
-from_none c ns (negsuc v) h e = refl
+    go : (b ≡ 255) ⊎ (b ≡ 255 → ⊥) → b ≡ 255
+    go (inl h) = h
+    go (inr h) = let z : None ≡ Some b = e ∙ rw (ne_eqb b 255 h) in cc
 
-pub from_some : (c : List ℤ) (ns : List ℕ) (z : ℤ) → lt_z z (pos 0) ≡ false → nat_abs z < length ns → (get_or ns (nat_abs z) 0 ≡ 255 → ⊥) →
-    Some (set c 0 (pos (get_or ns (nat_abs z) 0))) ≡ from c ns z
-from_some c ns (pos v) h l ne =
-    sym (ap (moved_to c) (get_or_default ns v 255 0 l) ∙ rw (ne_eqb (get_or ns v 0) 255 ne))
-from_some c ns (negsuc v) h l ne = absurd (false≢true (sym h))
+pub some_told : (b n : ℕ) → Some n ≡ state_of b → (b ≡ n) × (b ≡ 255 → ⊥)
+some_told b n e = go (cases_eq b 255)
+  where
+    go : (b ≡ 255) ⊎ (b ≡ 255 → ⊥) → (b ≡ n) × (b ≡ 255 → ⊥)
+    go (inl h) = let z : Some n ≡ None = e ∙ rw h in cc
+    go (inr h) = let z : Some n ≡ Some b = e ∙ rw (ne_eqb b 255 h) in (cc, h)
 
 -- a state with a next one has seven instructions
 pub seven : (ns : List ℕ) (q left : ℕ) → q < length ns → (get_or ns q 0 ≡ 255 → ⊥) → left ≡ row_size (drop q ns) → 7 ≤ left
 seven ns q left h ne e = omega (arith, rw (ne_eqb (get_or ns q 0) 255 ne) at (size_at ns q h))
+
+-- ---- rows in fields
+
+-- too few bytes for a row
+pub rows_none : (s : ℕ) (xs : List ℕ) → length xs < s → rows_in s (length xs / s) xs ≡ []
+rows_none s xs h = ap (λ m. rows_in s m xs) (div-eq_of_lt h)
+
+-- a row, and the others
+pub rows_some : (s : ℕ) (xs field others : List ℕ) → 0 < s → xs ≡ field ++ others → length field ≡ s →
+    rows_in s (length xs / s) xs ≡ row_in (drop 3 field) ∷ rows_in s (length others / s) others
+rows_some s xs field others h e l =
+    let k : length xs ≡ s + length others = ap length e ∙ length-append field others ∙ ap (λ n. n + length others) l in
+    let m : length xs / s ≡ suc (length others / s) = ap (λ n. n / s) k ∙ add-div_left (length others) h ∙ add-one (length others / s) in
+    ap (λ n. rows_in s n xs) m ∙
+    ap₂ (λ a b. row_in (drop 3 a) ∷ rows_in s (length others / s) b) (ap (take s) e ∙ take_at field others s l) (ap (drop s) e ∙ drop_at field others s l)
+
+pub rows_in-length : (s m : ℕ) (xs : List ℕ) → length (rows_in s m xs) ≡ m
+rows_in-length s zero xs = refl
+rows_in-length s (suc m) xs = ap suc (rows_in-length s m (drop s xs))
+
+-- row by row from place p of a file on
+pub rows_in_at : (n m p : ℕ) (f : List ℕ) (i : ℕ) (d : Row) → i < m → get_or (rows_in (5 + n) m (drop p f)) i d ≡ row_in (take (2 + n) (drop (p + ((5 + n) * i + 3)) f))
+rows_in_at n zero p f i d h = absurd (omega arith)
+rows_in_at n (suc m) p f zero d h =
+    let t : 3 + (2 + n) ≡ 5 + n = omega arith in
+    let k : p + 3 ≡ p + ((5 + n) * 0 + 3) = omega arith in
+    ap row_in (ap (λ j. drop 3 (take j (drop p f))) (sym t) ∙ drop-take 3 (2 + n) (drop p f) ∙ ap (take (2 + n)) (drop-drop 3 p f ∙ ap (λ j. drop j f) k))
+rows_in_at n (suc m) p f (suc i) d h =
+    let k : p + (5 + n) + ((5 + n) * i + 3) ≡ p + ((5 + n) * suc i + 3) = omega (arith, mul-suc (5 + n) i) in
+    ap (λ xs. get_or (rows_in (5 + n) m xs) i d) (drop-drop (5 + n) p f) ∙ rows_in_at n m (p + (5 + n)) f i d (omega arith) ∙
+    ap (λ j. row_in (take (2 + n) (drop j f))) k
+
+-- so many rows of a file are those that stand there one by one
+pub rows_are : (n : ℕ) (f : List ℕ) (rows : List Row) → 6 + (5 + n) * length rows ≡ length f →
+    ((i : ℕ) (d : Row) → i < length rows → get_or rows i d ≡ row_in (take (2 + n) (drop (6 + ((5 + n) * i + 3)) f))) → rows_of n f ≡ rows
+rows_are n f rows size at =
+    let m : (length f - 6) / (5 + n) ≡ length rows = div-eq_of_eq-mul_right (omega arith) (omega arith) in
+    let l = rows_in-length (5 + n) (length rows) (drop 6 f) in
+    let d : Row = record { call = 0; moment = Moment.Before; nexts = [] } in
+    ap (λ k. rows_in (5 + n) k (drop 6 f)) m ∙
+    ext_get_or d (rows_in (5 + n) (length rows) (drop 6 f)) rows l (λ i h. rows_in_at n (length rows) 6 f i d (omega arith) ∙ sym (at i d (omega arith)))
+
+-- the rows of a table are those in its file
+pub table_rows : (f : List ℕ) (t : Table) → TableFile f t → rows_of t.states f ≡ t.rows
+table_rows f t w =
+    rows_are t.states f t.rows w.size (λ i d h. w.row i d h ∙ ap (λ j. row_in (take (2 + t.states) (drop j f))) (omega arith))
+
+-- ---- how a row is looked up
+
+pub nexts_shown : (o : Option ReadRow) → option_map (λ r. r.nexts.now) o ≡ option_map (λ r. r.nexts) (option_map shown o)
+nexts_shown None = refl
+nexts_shown (Some r) = refl
+
+pub row_found : (k : ℕ) (t : Moment) (rows : List Row) → option_map (λ r. r.nexts) (find (row_for k t) rows) ≡ row_of rows k t
+row_found k t [] = refl
+row_found k t (r ∷ rows) = let h = row_found k t rows in go (row_for k t r) h
+  where
+    go : (b : Bool) → option_map (λ r. r.nexts) (find (row_for k t) rows) ≡ row_of rows k t →
+        option_map (λ r. r.nexts) (cond b (Some r) (find (row_for k t) rows)) ≡ cond b (Some r.nexts) (row_of rows k t)
+    go true h = refl
+    go false h = h
+
+pub has_any : (k : ℕ) (rows : List Row) → list_any (λ r. eqb r.call k) rows ≡ has_row k rows
+has_any k [] = refl
+has_any k (r ∷ rows) = ap (λ b. eqb r.call k || b) (has_any k rows)

@@ -1,4 +1,6 @@
--- rows of state tables
-pub mod Tables
--- the reading of a state table, step by step
+-- the states in rows of state tables, and the tests of their blocks
+pub mod States
+-- rows of state tables, as they are read
+pub mod Rows
+-- the reading of state tables, step by step
 pub mod Reading

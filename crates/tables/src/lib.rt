@@ -3,6 +3,7 @@
 
 mod blocks;
 mod reader;
+mod row;
 mod table;
 
 pub use table::Table;

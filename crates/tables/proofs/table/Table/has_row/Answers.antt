@@ -1,20 +1,14 @@
-use Rattle.std.proofs.Common.{sym, ◌∙◌, arith}
-use Rattle.std.proofs.lemmas.List.{at_drop_all}
-use Rattle.model.specs.Tables.{table_in, has_row}
-use Rattle.tables.proofs.TableRows.{has_here, has_not}
+use Rattle.std.proofs.Common.{eqb, ◌∙◌, rules}
+use borrow.Author.Tests.{tests}
+use Rattle.std.proofs.lemmas.Iterator.Consumers.{YieldsList-from_first}
+use Rattle.std.proofs.lemmas.Iterator.Search.{any_from_yields_List}
+use Rattle.model.specs.Tables.{Row, table_in}
+use Rattle.tables.specs.Rows.{shown, rows_left}
+use Rattle.tables.proofs.TableRows.{has_any}
 use Rattle.tables.proofs.table.Table.has_row.Goals as goal
-
-pub returns-then-row-call : goal.returns-then-row-call
-returns-then-row-call c =
-    let rows = (table_in c.args.self.now.file.now).rows in
-    sym (has_here rows c.loop-i.i c.row.result.now (omega arith) c.row.ensures.value c.args.call c.if-row-call.true) ∙ c.loop-i.invariant
-
-pub loop-i-preserved : goal.loop-i-preserved
-loop-i-preserved c =
-    let rows = (table_in c.args.self.now.file.now).rows in
-    sym (has_not rows c.loop-i.i c.row.result.now (omega arith) c.row.ensures.value c.args.call c.if-row-call.false) ∙ c.loop-i.invariant
 
 pub returns : goal.returns
 returns c =
     let rows = (table_in c.args.self.now.file.now).rows in
-    sym (at_drop_all (has_row c.args.call) rows c.loop-i.i (omega arith)) ∙ c.loop-i.invariant
+    any_from_yields_List (λ (r : Row). eqb r.call c.args.call) c.any.new.self _ _ c.any.ensures.ran (YieldsList-from_first shown rows_left rows c.rows.ensures) (λ x b q k. search (rules, tests)) ∙
+    has_any c.args.call rows

@@ -1,17 +1,15 @@
-use Rattle.std.proofs.Common.{set, pos, Err, ap, ◌∙◌, arith, w32, SFits, rules}
+use Rattle.std.proofs.Common.{set, pos, ap, ◌∙◌, arith, w32, SFits, rules}
 use Rattle.std.proofs.lemmas.Int.{to_z-of_z}
-use Rattle.std.proofs.lemmas.Result.{err_from_is_err_and}
 use Rattle.model.specs.Tables.{table_in, table_automaton}
-use Rattle.policy.proofs.Asked.{starts_refused, starts_allowed}
 use Rattle.tables.proofs.TableRows.{first_cell}
+use Rattle.policy.proofs.Asked.{passed, starts_refused, starts_allowed}
 use Rattle.tables.proofs.table.TablePolicy.starts.Goals as goal
 
 pub returns-in_err-may_start : goal.returns-in_err-may_start
 returns-in_err-may_start c =
-    let p = err_from_is_err_and c.from_residual.result c.from_residual.ensures.1 in
     let A = table_automaton (table_in c.args.self.now.file.now) in
     let h = starts_refused A c.args.row.now c.in_err-may_start.field-0.0 c.in_err-may_start.ensures in
-    record { answer = p.1 ∙ ap Err p.2 ∙ h.0; row = h.1 }
+    record { answer = passed _ c.from_residual.ensures.1 ∙ h.0; row = h.1 }
 
 pub returns : goal.returns
 returns c =
