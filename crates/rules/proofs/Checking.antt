@@ -12,7 +12,8 @@ use Rattle.model.proofs.PolicyAccepted.{rules_written}
 use Rattle.model.specs.Words.{quads, signed_of}
 use Rattle.rules.specs.Pieces.{forget}
 use Rattle.rules.specs.Tokens.{well_held}
-use Rattle.rules.specs.Reader.{earlier, first_of, bad_expr, bad_update, bad_rule, faulty, told, opened, rules_from}
+use Rattle.std.specs.Option.{option_or}
+use Rattle.rules.specs.Reader.{first_of, bad_expr, bad_update, bad_rule, faulty, told, opened, rules_from}
 use Rattle.rules.specs.declared.reader.Opening.{Opening}
 use Rattle.rules.specs.Views.{Written}
 use Rattle.rules.proofs.Reading.{Here, read_here}
@@ -28,7 +29,7 @@ ok_none r a None e f = refl
 ok_none r a (Some p) e f = absurd (err_ok (sym f ∙ ap forget e))
 
 two : {A B C : Type 0} (r : Read A) (s : Read B) (g : A → B → C) (x y : Option ℕ) → forget r ≡ told x → forget s ≡ told y →
-    forget (r >>= (λ a. s >>= (λ b. Ok (g a b)))) ≡ told (earlier x y)
+    forget (r >>= (λ a. s >>= (λ b. Ok (g a b)))) ≡ told (option_or x y)
 unfolding ◌>>=◌
 two (Ok a) (Ok b) g None y p q = q
 two (Ok a) (Err e) g None y p q = q

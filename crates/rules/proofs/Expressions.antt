@@ -1,9 +1,9 @@
--- Tokens and expressions.
-use Rattle.std.proofs.Common.{◌≡◌, ℕ, ◌+◌, ◌-◌, ◌<◌, ◌≤◌, Bool, true, false, cond, ◌&&◌, ltb, leb, List, [], ◌∷◌, length, get_or, drop, Some, None, Option, sym, refl, ap, ◌∙◌, arith}
-use Rattle.std.proofs.lemmas.List.{drop_more, drop-drop, length-drop}
-use Rattle.std.proofs.lemmas.Bool.{and_right}
-use Rattle.model.specs.Words.{word}
-use Rattle.model.specs.Rules.{Token, constant, cell, argument, operator, Expr, token, tokens, both}
+-- Tokens and expressions, by chunks of three bytes.
+use Rattle.std.proofs.Common.{◌≡◌, ℕ, ◌<◌, min, Bool, true, false, cond, ◌&&◌, ltb, leb, List, [], ◌∷◌, ◌++◌, length, Some, None, Option, sym, refl, ap, ◌∙◌, subst, arith}
+use Rattle.std.proofs.lemmas.Bool.{and_right, and_parts}
+use Rattle.std.specs.List.{AllByRecursion}
+use Rattle.model.specs.Rules.{Token, constant, cell, argument, operator, Expr, tokens, both, balanced, expr_bytes, ValidToken, ValidExpr}
+use Rattle.model.proofs.PolicyRoundTrip.{tokens_write}
 use Rattle.rules.specs.Tokens.{first_token, room, after, well_held}
 
 -- a number that was given since a test holds
@@ -16,65 +16,93 @@ pub not_given : {X : Type 0} (b : Bool) (x : X) → None ≡ cond b (Some x) Non
 not_given true x e = absurd (let z : ◌≡◌ {A = ℕ} 0 1 = cc in omega arith)
 not_given false x e = refl
 
--- three bytes from a place on
-pub three : (xs : List ℕ) (i : ℕ) → i + 3 ≤ length xs → drop i xs ≡ get_or xs i 0 ∷ get_or xs (i + 1) 0 ∷ get_or xs (i + 2) 0 ∷ drop (i + 3) xs
-three xs i h =
-    let p : i + 1 + 1 ≡ i + 2 = omega arith in
-    let q : i + 2 + 1 ≡ i + 3 = omega arith in
-    drop_more xs i 0 (omega arith) ∙ ap (λ r. get_or xs i 0 ∷ r) (drop_more xs (i + 1) 0 (omega arith))
-    ∙ ap (λ k. get_or xs i 0 ∷ get_or xs (i + 1) 0 ∷ drop k xs) p ∙ ap (λ r. get_or xs i 0 ∷ get_or xs (i + 1) 0 ∷ r) (drop_more xs (i + 2) 0 (omega arith))
-    ∙ ap (λ k. get_or xs i 0 ∷ get_or xs (i + 1) 0 ∷ get_or xs (i + 2) 0 ∷ drop k xs) q
+-- the first k of the bytes s, or all where there are fewer
+abbrev pub Chunk : ℕ → List ℕ → List ℕ → List ℕ → Type 0
+Chunk k s x z = (s ≡ x ++ z) × (length x ≡ min k (length s)) × (0 < length s)
 
 module _ (n a : ℕ) where
-  pub first_at : (xs : List ℕ) (i : ℕ) → i + 3 ≤ length xs → first_token n a (drop i xs) ≡ token n a (get_or xs i 0) (word (get_or xs (i + 1) 0) (get_or xs (i + 2) 0))
-  first_at xs i h = ap (first_token n a) (three xs i h)
+  by_three : (x z : List ℕ) → length x ≡ min 3 (length (x ++ z)) → 0 < length (x ++ z) → tokens n a (x ++ z) ≡ both (first_token n a x) (tokens n a z)
+  by_three [] z l h = absurd (omega arith)
+  by_three (k ∷ []) [] l h = refl
+  by_three (k ∷ []) (y ∷ z) l h = absurd (omega arith)
+  by_three (k ∷ x ∷ []) [] l h = refl
+  by_three (k ∷ x ∷ []) (y ∷ z) l h = absurd (omega arith)
+  by_three (k ∷ x ∷ y ∷ []) z l h = refl
+  by_three (k ∷ x ∷ y ∷ w ∷ r) z l h = absurd (omega arith)
 
-  first_short : (xs : List ℕ) → length xs < 3 → first_token n a xs ≡ None
-  first_short [] h = refl
-  first_short (k ∷ []) h = refl
-  first_short (k ∷ x ∷ []) h = refl
-  first_short (k ∷ x ∷ y ∷ r) h = absurd (omega arith)
+  pub by_chunk : (k : ℕ) (s x z : List ℕ) (o : Option Token) → k ≡ 3 → Chunk k s x z → o ≡ first_token n a x → tokens n a s ≡ both o (tokens n a z)
+  by_chunk k s x z o e c f =
+      let l : length x ≡ min 3 (length s) = c.1 ∙ ap (λ j. min j (length s)) e in
+      let h : 0 < length (x ++ z) = subst (λ (w : List ℕ). 0 < length w) c.0 c.2 in
+      let m : length x ≡ min 3 (length (x ++ z)) = subst (λ (w : List ℕ). length x ≡ min 3 (length w)) c.0 l in
+      ap (tokens n a) c.0 ∙ by_three x z m h ∙ ap (λ q. both q (tokens n a z)) (sym f)
 
-  pub first_none : (xs : List ℕ) (i : ℕ) → length xs - i < 3 → first_token n a (drop i xs) ≡ None
-  first_none xs i h = first_short (drop i xs) (rw (length-drop i xs) h)
+  pub no_chunk : (s : List ℕ) → length s ≡ 0 → tokens n a s ≡ Some []
+  no_chunk [] e = refl
+  no_chunk (x ∷ s) e = absurd (omega arith)
 
-  one_more : (d : ℕ) (t : Token) (o : Option Expr) → well_held d (both (Some t) o) ≡ room d t && well_held (after d t) o
-  one_more d (constant z) None = sym (and_right (ltb d 8) false refl)
-  one_more d (cell i) None = sym (and_right (ltb d 8) false refl)
-  one_more d (argument i) None = sym (and_right (ltb d 8) false refl)
-  one_more d (operator o) None = sym (and_right (leb 2 d) false refl)
-  one_more d (constant z) (Some ts) = refl
-  one_more d (cell i) (Some ts) = refl
-  one_more d (argument i) (Some ts) = refl
-  one_more d (operator o) (Some ts) = refl
+one_more : (d : ℕ) (t : Token) (o : Option Expr) → well_held d (both (Some t) o) ≡ room d t && well_held (after d t) o
+one_more d (constant z) None = sym (and_right (ltb d 8) false refl)
+one_more d (cell i) None = sym (and_right (ltb d 8) false refl)
+one_more d (argument i) None = sym (and_right (ltb d 8) false refl)
+one_more d (operator o) None = sym (and_right (leb 2 d) false refl)
+one_more d (constant z) (Some ts) = refl
+one_more d (cell i) (Some ts) = refl
+one_more d (argument i) (Some ts) = refl
+one_more d (operator o) (Some ts) = refl
 
-  -- by the first token
-  by_first : (d : ℕ) (xs : List ℕ) (t : Token) → first_token n a xs ≡ Some t →
-      (3 ≤ length xs) × (well_held d (tokens n a xs) ≡ room d t && well_held (after d t) (tokens n a (drop 3 xs)))
-  by_first d [] t e = absurd (let z : ◌≡◌ {A = ℕ} 0 1 = cc in omega arith)
-  by_first d (k ∷ []) t e = absurd (let z : ◌≡◌ {A = ℕ} 0 1 = cc in omega arith)
-  by_first d (k ∷ x ∷ []) t e = absurd (let z : ◌≡◌ {A = ℕ} 0 1 = cc in omega arith)
-  by_first d (k ∷ x ∷ y ∷ r) t e = (omega arith, ap (λ o. well_held d (both o (tokens n a r))) e ∙ one_more d t (tokens n a r))
-
+module _ (d : ℕ) (o p : Option Expr) where
   -- no token is there
-  without : (d : ℕ) (xs : List ℕ) → 0 < length xs → first_token n a xs ≡ None → well_held d (tokens n a xs) ≡ false
-  without d [] h e = absurd (omega arith)
-  without d (k ∷ []) h e = refl
-  without d (k ∷ x ∷ []) h e = refl
-  without d (k ∷ x ∷ y ∷ r) h e = ap (λ o. well_held d (both o (tokens n a r))) e
+  pub held_none : p ≡ both None o → well_held d p ≡ false
+  held_none e = ap (well_held d) e
 
-  pub held_none : (d : ℕ) (xs : List ℕ) (i : ℕ) → i < length xs → first_token n a (drop i xs) ≡ None → well_held d (tokens n a (drop i xs)) ≡ false
-  held_none d xs i h e = without d (drop i xs) (rw (length-drop i xs) (omega arith)) e
+  module _ (t : Token) (e : p ≡ both (Some t) o) where
+    pub held_more : room d t ≡ true → well_held (after d t) o ≡ well_held d p
+    held_more f = sym (ap (well_held d) e ∙ one_more d t o ∙ ap (λ b. b && well_held (after d t) o) f)
 
-  pub held_more : (d : ℕ) (xs : List ℕ) (i : ℕ) (t : Token) → i ≤ length xs → first_token n a (drop i xs) ≡ Some t → room d t ≡ true →
-      (i + 3 ≤ length xs) × (well_held (after d t) (tokens n a (drop (i + 3) xs)) ≡ well_held d (tokens n a (drop i xs)))
-  held_more d xs i t h e f =
-      let b = by_first d (drop i xs) t e in
-      let l = length-drop i xs in
-      let b0 = b.0 in (
-        omega arith,
-        sym (b.1 ∙ ap (λ b. b && well_held (after d t) (tokens n a (drop 3 (drop i xs)))) f ∙ ap (λ r. well_held (after d t) (tokens n a r)) (drop-drop 3 i xs)),
-      )
+    pub held_over : room d t ≡ false → well_held d p ≡ false
+    held_over f = ap (well_held d) e ∙ one_more d t o ∙ ap (λ b. b && well_held (after d t) o) f
 
-  pub held_over : (d : ℕ) (xs : List ℕ) (i : ℕ) (t : Token) → first_token n a (drop i xs) ≡ Some t → room d t ≡ false → well_held d (tokens n a (drop i xs)) ≡ false
-  held_over d xs i t e f = (by_first d (drop i xs) t e).1 ∙ ap (λ b. b && well_held (after d t) (tokens n a (drop 3 (drop i xs)))) f
+-- ---- an expression that is left to read
+
+by_room : (d : ℕ) (t : Token) (ts : Expr) → balanced d (t ∷ ts) ≡ room d t && balanced (after d t) ts
+by_room d (constant z) ts = refl
+by_room d (cell i) ts = refl
+by_room d (argument i) ts = refl
+by_room d (operator o) ts = refl
+
+taken_off : (t : Token) (o : Option Expr) (ts : Expr) → both (Some t) o ≡ Some ts → (us : Expr) × (ts ≡ t ∷ us) × (o ≡ Some us)
+taken_off t None ts e = absurd (let z : ◌≡◌ {A = ℕ} 0 1 = cc in omega arith)
+taken_off t (Some us) ts e = (us, cc, refl)
+
+module _ (n a : ℕ) where
+  -- the bytes s, with d values held
+  pub record Unread (s : List ℕ) (d : ℕ) : Type 0 where
+    pub rest : Expr
+    pub reads : tokens n a s ≡ Some rest
+    pub balance : balanced d rest ≡ true
+    pub valid : AllByRecursion (ValidToken n a) rest
+
+  abbrev pub unread_start : (s : List ℕ) (d : ℕ) (ts : Expr) → s ≡ expr_bytes ts → d ≡ 0 → ValidExpr n a ts → Unread s d
+  unread_start s d ts e z w = record { rest = ts; reads = ap (tokens n a) e ∙ tokens_write n a ts w.tokens; balance = ap (λ k. balanced k ts) z ∙ w.balanced; valid = w.tokens }
+
+  module _ (s : List ℕ) (d : ℕ) (u : Unread s d) where
+    pub unread_some : (o : Option Expr) → tokens n a s ≡ both None o → ⊥
+    unread_some o e = let q : ◌≡◌ {A = Option Expr} None (Some u.rest) = sym e ∙ u.reads in let z : ◌≡◌ {A = ℕ} 0 1 = cc in omega arith
+
+    pub unread_end : length s ≡ 0 → u.rest ≡ []
+    unread_end l = let z : Some u.rest ≡ Some [] = sym u.reads ∙ no_chunk n a s l in cc
+
+    -- one token more is read
+    pub record Off (t : Token) (z : List ℕ) : Type 0 where
+      pub roomy : room d t ≡ true
+      pub valid : ValidToken n a t
+      pub more : Unread z (after d t)
+      pub all : u.rest ≡ t ∷ more.rest
+
+    pub unread_more : (t : Token) (z : List ℕ) → tokens n a s ≡ both (Some t) (tokens n a z) → Off t z
+    unread_more t z e =
+        let o = taken_off t (tokens n a z) u.rest (sym e ∙ u.reads) in
+        let p = and_parts _ _ (sym (ap (balanced d) o.1 ∙ by_room d t o.0) ∙ u.balance) in
+        let v = subst (AllByRecursion (ValidToken n a)) o.1 u.valid in
+        record { roomy = p.0; valid = v.0; more = record { rest = o.0; reads = o.2; balance = p.1; valid = v.1 }; all = o.1 }

@@ -2,15 +2,16 @@
 use Rattle.std.proofs.Common.{◌≡◌, ℕ, ◌+◌, ◌-◌, ◌<◌, ◌≤◌, Bool, true, false, cond, ◌&&◌, ◌||◌, eqb, ltb, ◌⊎◌, List, [], ◌∷◌, ◌++◌, length, get_or, take, drop, set, sym, refl, ap, ◌∙◌, subst, ap₂, inl, inr, append_assoc, append-nil, arith, length-append, length-drop}
 use Rattle.std.specs.List.{flat_map, AllByRecursion}
 use Rattle.std.proofs.lemmas.List.{take_at, take_rest, drop-drop, drop_at, get_or-set_same, get_or-set_other, get_or-replicate}
-use Rattle.std.proofs.lemmas.Bool.{eq-eqb, ne_eqb, eqb-true, lt-ltb, le-ltb, leb-true, and_left, cond_both, cases_eq, cases_Bool}
+use Rattle.std.proofs.lemmas.Bool.{eq-eqb, ne_eqb, eqb-true, lt-ltb, le-ltb, leb-true, and_left, and_right, cond_both, cases_eq, cases_Bool}
 use Rattle.model.specs.declared.Moment.{Moment}
-use Rattle.model.specs.Moments.{same_moment}
+use Rattle.model.specs.Moments.{moment_number, same_moment}
 use Rattle.model.specs.Fields.{Bytes, field}
 use Rattle.model.specs.Rules.{Rule, rule_bytes, rules_of, has_rule, rules_in, reads_rules, ValidRule}
+use Rattle.model.proofs.Moments.{same_moment_true}
 use Rattle.model.proofs.Accepted.{needed}
 use Rattle.model.proofs.RuleFiles.{rules_read_in, rules_laid, rules_valid_in}
 use Rattle.rules.specs.Views.{Written}
-use Rattle.rules.specs.Index.{no_span, all_at, span_of, kept_first, met_span, RowMet, first_place, last_place, any_span, Firsts, FirstsIn, LastsIn, rules_place, WrittenFor}
+use Rattle.rules.specs.Index.{no_span, all_at, span_of, kept_first, met_span, RowMet, Met, first_place, last_place, any_span, Firsts, FirstsIn, LastsIn, rules_place, WrittenFor}
 use Rattle.rules.specs.declared.index.Index.{Index}
 use Rattle.rules.specs.declared.index.Span.{Span}
 use Rattle.rules.proofs.Acts.{for_it, for_other}
@@ -31,6 +32,45 @@ pub span_all : (p k : ℕ) (t : Moment) → k < 64 → span_of (all_at p) k t �
 span_all p k Moment.Before h = get_or-replicate 64 k (record { from = p; to = p }) no_span h
 span_all p k Moment.After h = get_or-replicate 64 k (record { from = p; to = p }) no_span h
 span_all p k Moment.Raised h = get_or-replicate 64 k (record { from = p; to = p }) no_span h
+
+pub moment_low : (t : Moment) → moment_number t < 3
+moment_low Moment.Before = omega arith
+moment_low Moment.After = omega arith
+moment_low Moment.Raised = omega arith
+
+moments_apart : (m t : Moment) → same_moment m t ≡ false → moment_number t ≡ moment_number m → ⊥
+moments_apart Moment.Before Moment.Before e q = cc
+moments_apart Moment.Before Moment.After e q = omega arith
+moments_apart Moment.Before Moment.Raised e q = omega arith
+moments_apart Moment.After Moment.Before e q = omega arith
+moments_apart Moment.After Moment.After e q = cc
+moments_apart Moment.After Moment.Raised e q = omega arith
+moments_apart Moment.Raised Moment.Before e q = omega arith
+moments_apart Moment.Raised Moment.After e q = omega arith
+moments_apart Moment.Raised Moment.Raised e q = cc
+
+and_same : (b : Bool) (m : Moment) → b && same_moment m m ≡ b
+and_same true Moment.Before = refl
+and_same true Moment.After = refl
+and_same true Moment.Raised = refl
+and_same false m = refl
+
+-- a rule taken in by the spans of its moment
+pub row_taken : (i : Index) (end : ℕ) (r : Span) (c j : ℕ) (m : Moment) (row : List Span) → j ≡ moment_number m → j < length i.spans → RowMet end r c (get_or i.spans j []) row →
+    Met end r c m i (record { spans = set i.spans j row })
+row_taken i end r c j m row e l h k t z = go (cases_Bool (same_moment m t))
+  where
+    at : (u : Moment) → j ≡ moment_number u → span_of (record { spans = set i.spans j row }) k u ≡ cond (eqb c k && same_moment u u) (met_span end r (span_of i k u)) (span_of i k u)
+    at u q =
+        ap (λ x. get_or x k no_span) (ap (λ p. get_or (set i.spans j row) p []) (sym q) ∙ get_or-set_same i.spans j row [] l) ∙ h k z
+        ∙ ap (λ p. cond (eqb c k) (met_span end r (get_or (get_or i.spans p []) k no_span)) (get_or (get_or i.spans p []) k no_span)) q
+        ∙ sym (ap (λ b. cond b (met_span end r (span_of i k u)) (span_of i k u)) (and_same (eqb c k) u))
+
+    go : ((same_moment m t ≡ true) ⊎ (same_moment m t ≡ false)) → span_of (record { spans = set i.spans j row }) k t ≡ cond (eqb c k && same_moment m t) (met_span end r (span_of i k t)) (span_of i k t)
+    go (inl y) = subst (λ u. span_of (record { spans = set i.spans j row }) k u ≡ cond (eqb c k && same_moment m u) (met_span end r (span_of i k u)) (span_of i k u)) (same_moment_true m t y) (at m e)
+    go (inr n) =
+        ap (λ x. get_or x k no_span) (get_or-set_other i.spans j (moment_number t) row [] (λ q. moments_apart m t n (q ∙ e)))
+        ∙ sym (ap (λ b. cond b (met_span end r (span_of i k t)) (span_of i k t)) (and_right (eqb c k) (same_moment m t) n))
 
 pub cond_from : (b : Bool) (x y : Span) → (cond b x y).from ≡ cond b x.from y.from
 cond_from true x y = refl

@@ -1,7 +1,5 @@
 -- tokens and expressions
 pub mod Expressions
--- fields
-pub mod Places
 -- the reader's loops
 pub mod Reading
 -- rules and updates as parts of a file
@@ -22,3 +20,5 @@ pub mod Starts
 pub mod Indexing
 -- the policy that refuses every call
 pub mod Refusing
+-- a test of each of the rules, one after the other
+pub mod Walks

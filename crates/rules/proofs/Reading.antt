@@ -4,13 +4,15 @@ use Rattle.std.proofs.lemmas.List.{length-drop, drop-take, drop_all, drop-drop}
 use Rattle.std.proofs.lemmas.Bool.{le-leb, lt-leb, eq-eqb, ne_eqb}
 use Rattle.model.specs.declared.Refusal.{Refusal}
 use Rattle.model.specs.declared.Refusal.TheVariants.{BadPolicyField, BadPolicySize}
-use Rattle.model.specs.Fields.{Read, Part, Field, announced, next, expect, fields, ◌>>=◌}
+use Rattle.model.specs.Fields.{Read, Part, Field, refuse, a_tag, announced, next, expect, fields, ◌>>=◌}
 use Rattle.model.specs.Rules.{triples, update_field, rule_field}
 use Rattle.model.specs.Policy.{arguments}
 use Rattle.model.specs.Moments.{moment_of}
 use Rattle.model.proofs.Parts.{parts_of_files}
-use Rattle.rules.specs.Pieces.{Found, piece_of}
-use Rattle.rules.specs.Reader.{earlier, first_of, bad_expr, bad_update, bad_rule, one_bad, faulty, updating, headed, heading, opened}
+use Rattle.policy.specs.Pieces.{Found, piece_of, due_piece}
+use Rattle.policy.proofs.Places.{piece_known}
+use Rattle.std.specs.Option.{option_or}
+use Rattle.rules.specs.Reader.{first_of, bad_expr, bad_update, bad_rule, one_bad, faulty, updating, headed, heading, opened}
 
 -- ---- a field that was handed out
 
@@ -54,20 +56,24 @@ module _ (h : List ℕ) (tag p : ℕ) where
       go (Ok m) e = absurd (let z : ◌≡◌ {A = ℕ} 0 1 = cc in omega arith)
       go (Err y) e = cc
 
+-- what is due at a place of a holder g, which is h, by a tag that some field has
+pub due_known : (h g : List ℕ) (tag t p : ℕ) → g ≡ h → t ≡ tag → a_tag tag ≡ true → due_piece t p g ≡ piece_of (expect BadPolicyField tag p (drop p h))
+due_known h g tag t p held tagged known = ap₂ (λ t g. due_piece t p g) tagged held ∙ piece_known h tag p known
+
 -- ---- fields one behind the other
 
-earlier_again : (a b c : Option ℕ) → earlier a (earlier b c) ≡ earlier (earlier a b) c
-earlier_again (Some p) b c = refl
-earlier_again None b c = refl
+or_again : (a b c : Option ℕ) → option_or a (option_or b c) ≡ option_or (option_or a b) c
+or_again (Some p) b c = refl
+or_again None b c = refl
 
 module _ {X : Type 0} (tag : ℕ) (one : ℕ → List ℕ → Read X) (g : X → Option ℕ) where
   one_err : (r : Read X) (x : Refusal) → Err x ≡ one_bad g r → r ≡ Err x
   one_err (Ok y) x e = absurd (let z : ◌≡◌ {A = ℕ} 0 1 = cc in omega arith)
   one_err (Err y) x e = cc
 
-  pushed : (b : Option ℕ) (y : X) (r : Read (List X)) → faulty g b (r >>= (λ ys. Ok (y ∷ ys))) ≡ faulty g (earlier b (g y)) r
+  pushed : (b : Option ℕ) (y : X) (r : Read (List X)) → faulty g b (r >>= (λ ys. Ok (y ∷ ys))) ≡ faulty g (option_or b (g y)) r
   unfolding ◌>>=◌
-  pushed b y (Ok ys) = ap Ok (earlier_again b (g y) (first_of g ys))
+  pushed b y (Ok ys) = ap Ok (or_again b (g y) (first_of g ys))
   pushed b y (Err e) = refl
 
   -- by the bytes left
@@ -90,13 +96,13 @@ module _ {X : Type 0} (tag : ℕ) (one : ℕ → List ℕ → Read X) (g : X →
   by_one (suc m) p (b ∷ r) x o k l e q = rw (e, q)
 
   by_more : (b : Option ℕ) (m p : ℕ) (r : List ℕ) (x : Part) (y : X) → 0 < m → 0 < length r → expect BadPolicyField tag p r ≡ Ok x → one p x.contents ≡ Ok y →
-      faulty g b (fields m tag one p r) ≡ faulty g (earlier b (g y)) (fields (m - 1) tag one (next x) x.rest)
+      faulty g b (fields m tag one p r) ≡ faulty g (option_or b (g y)) (fields (m - 1) tag one (next x) x.rest)
   unfolding fields ◌>>=◌
   by_more b m p [] x y k l e q = absurd (omega arith)
   by_more b zero p (c ∷ r) x y k l e q = absurd (omega arith)
   by_more b (suc m) p (c ∷ r) x y k l e q =
       let z : m ≡ suc m - 1 = omega arith in
-      rw (e, q) (pushed b y (fields m tag one (next x) x.rest) ∙ ap (λ k. faulty g (earlier b (g y)) (fields k tag one (next x) x.rest)) z)
+      rw (e, q) (pushed b y (fields m tag one (next x) x.rest) ∙ ap (λ k. faulty g (option_or b (g y)) (fields k tag one (next x) x.rest)) z)
 
   module _ (h : List ℕ) (p : ℕ) where
     some_left : p < length h → 0 < length (drop p h)
@@ -107,7 +113,7 @@ module _ {X : Type 0} (tag : ℕ) (one : ℕ → List ℕ → Read X) (g : X →
     unfolding fields
     at_end b m l = ap (λ r. faulty g b (fields m tag one p r)) (drop_all p h l) ∙ ap Ok (none_more b)
       where
-        none_more : (b : Option ℕ) → earlier b None ≡ b
+        none_more : (b : Option ℕ) → option_or b None ≡ b
         none_more (Some p) = refl
         none_more None = refl
 
@@ -123,15 +129,58 @@ module _ {X : Type 0} (tag : ℕ) (one : ℕ → List ℕ → Read X) (g : X →
       at_fault x k e = ap (faulty g b) (by_one m p (drop p h) _ x k (some_left l) w.met (one_err (one p c) x e))
 
       pub at_more : (o : Option ℕ) → 0 < m → Ok o ≡ one_bad g (one p c) →
-          faulty g b (fields m tag one p (drop p h)) ≡ faulty g (earlier b o) (fields (m - 1) tag one n (drop n h))
+          faulty g b (fields m tag one p (drop p h)) ≡ faulty g (option_or b o) (fields (m - 1) tag one n (drop n h))
       at_more o k e = go (one p c) refl e
         where
-          go : (r : Read X) → one p c ≡ r → Ok o ≡ one_bad g r → faulty g b (fields m tag one p (drop p h)) ≡ faulty g (earlier b o) (fields (m - 1) tag one n (drop n h))
+          go : (r : Read X) → one p c ≡ r → Ok o ≡ one_bad g r → faulty g b (fields m tag one p (drop p h)) ≡ faulty g (option_or b o) (fields (m - 1) tag one n (drop n h))
           go (Ok y) q e =
               let z : g y ≡ o = cc in
               by_more b m p (drop p h) _ y k (some_left l) w.met q
-              ∙ ap₂ (λ a k. faulty g (earlier b a) (fields (m - 1) tag one k (drop n h))) z (sym w.behind)
+              ∙ ap₂ (λ a k. faulty g (option_or b a) (fields (m - 1) tag one k (drop n h))) z (sym w.behind)
           go (Err x) q e = absurd (let z : ◌≡◌ {A = ℕ} 0 1 = cc in omega arith)
+
+pub one_self : (r : Read (Option ℕ)) → one_bad (λ b. b) r ≡ r
+one_self (Ok x) = refl
+one_self (Err e) = refl
+
+-- the places alone, read as they are found
+module _ {X : Type 0} (tag : ℕ) (one : ℕ → List ℕ → Read X) (g : X → Option ℕ) where
+  abbrev pub found : ℕ → List ℕ → Read (Option ℕ)
+  found p c = one_bad g (one p c)
+
+  same_list : (b : Option ℕ) (y : X) (r : Read (List X)) (q : Read (List (Option ℕ))) → ((b : Option ℕ) → faulty (λ o. o) b q ≡ faulty g b r) →
+      faulty (λ o. o) b (q >>= (λ ys. Ok (g y ∷ ys))) ≡ faulty g b (r >>= (λ ys. Ok (y ∷ ys)))
+  unfolding ◌>>=◌
+  same_list b y (Ok xs) (Ok ys) h = ap Ok (or_again b (g y) (first_of (λ o. o) ys)) ∙ h (option_or b (g y)) ∙ sym (ap Ok (or_again b (g y) (first_of g xs)))
+  same_list b y (Ok xs) (Err e) h = absurd (let q = h b in let z : ◌≡◌ {A = ℕ} 0 1 = cc in omega arith)
+  same_list b y (Err e) (Ok ys) h = absurd (let q = h b in let z : ◌≡◌ {A = ℕ} 0 1 = cc in omega arith)
+  same_list b y (Err e) (Err f) h = h b
+
+  same_one : (b : Option ℕ) (r : Read X) (k : X → Read (List X)) (l : Read (List (Option ℕ))) → ((y : X) (b : Option ℕ) → faulty (λ o. o) b l ≡ faulty g b (k y)) →
+      faulty (λ o. o) b (one_bad g r >>= (λ o. l >>= (λ ys. Ok (o ∷ ys)))) ≡ faulty g b (r >>= (λ y. k y >>= (λ ys. Ok (y ∷ ys))))
+  unfolding ◌>>=◌
+  same_one b (Ok y) k l h = same_list b y (k y) l (h y)
+  same_one b (Err e) k l h = refl
+
+  places_more : (m p : ℕ) (c : List ℕ) (b : Option ℕ) (k : ℕ → List ℕ → Read (List (Option ℕ))) (l : ℕ → List ℕ → Read (List X)) →
+      ((p : ℕ) (r : List ℕ) (b : Option ℕ) → faulty (λ o. o) b (k p r) ≡ faulty g b (l p r)) → (x : Read Part) →
+      faulty (λ o. o) b (x >>= (λ w. one_bad g (one p w.contents) >>= (λ o. k (next w) w.rest >>= (λ ys. Ok (o ∷ ys)))))
+      ≡ faulty g b (x >>= (λ w. one p w.contents >>= (λ y. l (next w) w.rest >>= (λ ys. Ok (y ∷ ys)))))
+  unfolding ◌>>=◌
+  places_more m p c b k l h (Ok w) = same_one b (one p w.contents) (λ y. l (next w) w.rest) (k (next w) w.rest) (λ y b. h (next w) w.rest b)
+  places_more m p c b k l h (Err e) = refl
+
+  places_none : (p : ℕ) (b : Option ℕ) (x : Read Part) →
+      faulty (λ o. o) b (x >>= (λ w. refuse {A = List (Option ℕ)} (BadPolicySize p))) ≡ faulty g b (x >>= (λ w. refuse {A = List X} (BadPolicySize p)))
+  unfolding ◌>>=◌
+  places_none p b (Ok w) = refl
+  places_none p b (Err e) = refl
+
+  pub places_alone : (m p : ℕ) (r : List ℕ) (b : Option ℕ) → faulty (λ o. o) b (fields m tag found p r) ≡ faulty g b (fields m tag one p r)
+  unfolding fields
+  places_alone m p [] b = refl
+  places_alone zero p (c ∷ r) b = places_none p b (expect BadPolicyField tag p (c ∷ r))
+  places_alone (suc m) p (c ∷ r) b = places_more m p (c ∷ r) b (fields m tag found) (fields m tag one) (λ q s d. places_alone m q s d) (expect BadPolicyField tag p (c ∷ r))
 
 -- ---- updates
 
@@ -147,7 +196,7 @@ update_good n a p c e = rw e
 
 -- what is found in the updates, behind a guard
 abbrev pub behind_guard : Option ℕ → Read (Option ℕ) → Read (Option ℕ)
-behind_guard b (Ok o) = Ok (earlier b o)
+behind_guard b (Ok o) = Ok (option_or b o)
 behind_guard b (Err e) = Err e
 
 module _ (n p : ℕ) (h : List ℕ) where

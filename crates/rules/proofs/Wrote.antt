@@ -1,13 +1,19 @@
 -- Instructions written one after the other.
-use Rattle.std.proofs.Common.{◌≡◌, ℕ, ◌+◌, ◌*◌, ◌≤◌, List, [], ◌++◌, length, sym, refl, ap, ◌∙◌, ap₂, append_assoc, append-nil, arith, length-append, length-drop, length-take}
+use Rattle.std.proofs.Common.{◌≡◌, ℕ, ◌+◌, ◌*◌, ◌≤◌, List, [], ◌∷◌, ◌++◌, length, sym, refl, ap, ◌∙◌, ap₂, append_assoc, append-nil, arith, length-append, length-drop, length-take}
 use Rattle.model.specs.declared.Test.{Test}
 use Rattle.model.specs.Calls.{block_bytes}
-use Rattle.policy.specs.Calls.{put_at}
+use Rattle.std.proofs.lemmas.Bool.{le-leb}
+use Rattle.policy.specs.Calls.{put_at, put_if_room, behind_put}
 use Rattle.policy.proofs.Writes.{put_none, put_put, bytes_append, bytes_length}
 use Rattle.rules.specs.Writer.{Puts}
 
 length_put : (xs ys : List ℕ) (at : ℕ) → at + length ys ≤ length xs → length (put_at xs at ys) ≡ length xs
 length_put xs ys at h = simp (length-append, length-take, length-drop) (omega arith)
+
+-- one instruction
+pub puts : (area : List ℕ) (at : ℕ) (test : Test) (to : ℕ) (after : List ℕ) → to ≡ behind_put area at (block_bytes (test ∷ [])) → after ≡ put_if_room area at (block_bytes (test ∷ [])) →
+    Puts area at (test ∷ []) to after
+puts area at test to after b a h = let t = le-leb (at + 4) (length area) h in (rw t at b, rw t at a)
 
 -- from place at on, what is written of the whole, so that the rest is left to write at place to
 pub record Wrote (area : List ℕ) (at : ℕ) (whole rest : List Test) (to : ℕ) (after : List ℕ) : Type 0 where

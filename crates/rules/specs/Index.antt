@@ -1,7 +1,7 @@
 -- Where the rules for each call and moment stand in a file.
 use Rattle.std.specs.Prelude.{◌≡◌, ℕ, ◌+◌, ◌*◌, ◌<◌, Bool, cond, ◌&&◌, ◌||◌, List, [], ◌∷◌, length, replicate, ◌==◌, nat_lt, slice_index_or}
 use Rattle.model.specs.declared.Moment.{Moment}
-use Rattle.model.specs.Moments.{same_moment}
+use Rattle.model.specs.Moments.{moment_number, same_moment}
 use Rattle.model.specs.Rules.{Rule, rule_bytes, rules_of, rules_in}
 use Rattle.rules.specs.Views.{Written}
 use Rattle.rules.specs.declared.index.Index.{Index}
@@ -13,15 +13,11 @@ no_span = record { from = 0; to = 0 }
 
 -- every span is empty, at the same place
 abbrev pub all_at : ℕ → Index
-all_at p =
-    let s : Span = record { from = p; to = p } in
-    record { before = replicate 64 s; after = replicate 64 s; raised = replicate 64 s }
+all_at p = record { spans = replicate 3 (replicate 64 (record { from = p; to = p })) }
 
 -- the span for a call and a moment
 abbrev pub span_of : Index → ℕ → Moment → Span
-span_of i k Moment.Before = slice_index_or i.before k no_span
-span_of i k Moment.After = slice_index_or i.after k no_span
-span_of i k Moment.Raised = slice_index_or i.raised k no_span
+span_of i k t = slice_index_or (slice_index_or i.spans (moment_number t) []) k no_span
 
 -- the place of the first rule for a call and a moment, where the rules stand from place p on; their end if there is none
 abbrev pub first_place : List Rule → ℕ → Moment → ℕ → ℕ

@@ -4,13 +4,9 @@ use Rattle.model.specs.declared.Refusal.TheVariants.{BadPolicyField, BadPolicySi
 use Rattle.model.specs.Policy.{arguments}
 use Rattle.model.specs.Fields.{Read, Field, refuse, need, expect, next, fields, ◌>>=◌, ◌>>◌}
 use Rattle.model.specs.Rules.{Rule, Raw, tokens, triples, rule_field, read_rule_list}
+use Rattle.std.specs.Option.{option_or}
 use Rattle.rules.specs.Tokens.{well_held}
 use Rattle.rules.specs.declared.reader.Opening.{Opening}
-
--- the first of two places, if there is any
-abbrev pub earlier : Option ℕ → Option ℕ → Option ℕ
-earlier (Some p) o = Some p
-earlier None o = o
 
 -- the place of an expression that is bad, if it is
 abbrev pub bad_expr : ℕ → ℕ → ℕ → List ℕ → Option ℕ
@@ -23,11 +19,11 @@ bad_update n a u = bad_expr n a u.place (drop 1 u.contents)
 -- the first place that is found in a list
 abbrev pub first_of : {X : Type 0} → (X → Option ℕ) → List X → Option ℕ
 first_of g [] = None
-first_of g (x ∷ xs) = earlier (g x) (first_of g xs)
+first_of g (x ∷ xs) = option_or (g x) (first_of g xs)
 
 -- the first bad expression of a rule
 abbrev pub bad_rule : ℕ → Raw → Option ℕ
-bad_rule n r = earlier (bad_expr n (arguments r.moment) r.guard.place r.guard.contents) (first_of (bad_update n (arguments r.moment)) r.updates)
+bad_rule n r = option_or (bad_expr n (arguments r.moment) r.guard.place r.guard.contents) (first_of (bad_update n (arguments r.moment)) r.updates)
 
 -- what was read, by its first bad expression
 abbrev pub one_bad : {X : Type 0} → (X → Option ℕ) → Read X → Read (Option ℕ)
@@ -36,7 +32,7 @@ one_bad g (Err e) = Err e
 
 -- a list of what was read, by its first bad expression behind one that was found before
 abbrev pub faulty : {X : Type 0} → (X → Option ℕ) → Option ℕ → Read (List X) → Read (Option ℕ)
-faulty g b (Ok xs) = Ok (earlier b (first_of g xs))
+faulty g b (Ok xs) = Ok (option_or b (first_of g xs))
 faulty g b (Err e) = Err e
 
 -- the contents of a rule begin with a call and a moment

@@ -4,7 +4,7 @@ ghost use Rattle.model.specs.Rules.{Rule};
 ghost use Rattle.rules.specs.Index.{all_at, span_of, kept_first, RowMet, Met, any_span, Firsts, Lasts};
 ghost use Rattle.rules.specs.Views.{Written};
 
-use crate::views::first_rule;
+use crate::views::RuleViews;
 use model::Moment;
 
 // A part of a file, from a place up to the place behind it.
@@ -14,13 +14,12 @@ pub struct Span {
     pub(crate) to: u16,
 }
 
-// For each call, by moment, the span from its first rule up to behind its last; without a rule it is
-// empty, at the file's end.
+// For each moment and call, the span from its first rule up to behind its last; without a rule it is
+// empty, at the file's end: in the controller's memory an `Option` of a span would take six bytes, not
+// four.
 #[derive(Clone, Copy)]
 pub struct Index {
-    before: [Span; 64],
-    after: [Span; 64],
-    raised: [Span; 64],
+    spans: [[Span; 64]; 3],
 }
 
 // Where a span begins once a rule was met at a place: the first that is met stays.
@@ -51,9 +50,7 @@ impl Index {
             to: place,
         };
         Index {
-            before: [span; 64],
-            after: [span; 64],
-            raised: [span; 64],
+            spans: [[span; 64]; 3],
         }
     }
 
@@ -62,23 +59,15 @@ impl Index {
         requires { call < 64 }
         ensures { result ≡ span_of self.now call moment }
     {
-        let k = usize::from(call);
-        match moment {
-            Moment::Before => self.before[k],
-            Moment::After => self.after[k],
-            Moment::Raised => self.raised[k],
-        }
+        self.spans[usize::from(moment.number())][usize::from(call)]
     }
 
     // Takes in a rule for a call and a moment.
     fn meet(&mut self, call: u8, moment: Moment, rule: Span, end: u16)
         ensures { Met end rule call moment self.old self.new }
     {
-        match moment {
-            Moment::Before => meet_in(&mut self.before, call, rule, end),
-            Moment::After => meet_in(&mut self.after, call, rule, end),
-            Moment::Raised => meet_in(&mut self.raised, call, rule, end),
-        }
+        let row = &mut self.spans[usize::from(moment.number())];
+        meet_in(row, call, rule, end);
     }
 
     // The index of rules in bytes that stand at the end of a file.
@@ -89,17 +78,15 @@ impl Index {
         ensures lasts { (n : ℕ) (rs : List Rule) → Written n rules.now rs → Lasts rs (end - length rules.now) end result }
     {
         let mut index = Index::all_at(end as u16);
-        let mut rest = rules;
-        while rest.len() > 0 {
-            let r = first_rule(rest);
-            let from = end - rest.len();
+        let mut from = end - rules.len();
+        for r in RuleViews(rules) {
             let to = end - r.rest.len();
             let span = Span {
                 from: from as u16,
                 to: to as u16,
             };
             index.meet(r.call, r.moment, span, end as u16);
-            rest = r.rest;
+            from = to;
         }
         index
     }
@@ -109,8 +96,8 @@ impl Index {
         requires { call < 64 }
         ensures { result ≡ any_span self.now call end }
     {
-        usize::from(self.span(call, Moment::Before).from) < end
-            || usize::from(self.span(call, Moment::After).from) < end
-            || usize::from(self.span(call, Moment::Raised).from) < end
+        Moment::ALL
+            .iter()
+            .any(|t| usize::from(self.span(call, *t).from) < end)
     }
 }

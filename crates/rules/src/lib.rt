@@ -2,8 +2,8 @@
 #![tactic(auto)]
 
 mod borrowed;
+mod file;
 mod index;
-mod pieces;
 mod reader;
 mod sizes;
 mod steps;

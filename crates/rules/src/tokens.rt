@@ -1,10 +1,7 @@
 // Expressions in postfix: tokens of three bytes each.
-ghost use Rattle.std.specs.Prelude.{◌≡◌, ◌+◌, ◌<◌, ◌≤◌, length, drop, if◌then◌else◌, Some, None};
-ghost use Rattle.std.specs.Int.{w16};
-ghost use Rattle.std.proofs.Common.{to_z};
+ghost use Rattle.std.specs.Prelude.{◌≡◌, if◌then◌else◌, Some, None};
 ghost use Rattle.std.specs.Option.{option_map};
-ghost use Rattle.model.specs.Policy.{arguments as readable};
-ghost use Rattle.model.specs.Words.{operator_of};
+ghost use Rattle.model.specs.Policy.{arguments};
 ghost use Rattle.model.specs.Rules.{token, tokens};
 ghost use Rattle.rules.specs.Tokens.{meant, room, after, first_token, well_held};
 
@@ -19,61 +16,46 @@ pub enum Token {
     Operator(Operator),
 }
 
-// How many of a0 to a4 a rule for this moment may read.
-pub(crate) fn arguments(t: Moment) -> u8
-    ensures { result ≡ readable t }
-{
-    match t {
-        Moment::Before => 4,
-        Moment::After => 5,
-        Moment::Raised => 5,
-    }
+// What tokens may name: the cells and the arguments below these numbers.
+#[derive(Clone, Copy)]
+pub struct Scope {
+    pub cells: u8,
+    pub arguments: u8,
 }
 
-fn signed(y: u16) -> i16
-    ensures { result ≡ to_z w16 y }
-{
-    i16::from_be_bytes(y.to_be_bytes())
-}
-
-fn operator(y: u16) -> Operator
-    ensures { result ≡ operator_of y }
-{
-    match y {
-        0 => Operator::Plus,
-        1 => Operator::Minus,
-        2 => Operator::Less,
-        3 => Operator::Equal,
-        4 => Operator::Both,
-        _ => Operator::Either,
+impl Scope {
+    // In a policy of so many cells, for rules at a moment: a0 to a3, and after a call its answer too.
+    pub(crate) fn at(cells: u8, moment: Moment) -> Scope
+        ensures { result ≡ record { cells = cells; arguments = arguments moment } }
+    {
+        let arguments = match moment {
+            Moment::Before => 4,
+            Moment::After | Moment::Raised => 5,
+        };
+        Scope { cells, arguments }
     }
 }
 
 impl Token {
-    // The token of a kind and a number, in a policy of so many cells where so many arguments may be
-    // read.
-    pub(crate) fn new(kind: u8, y: u16, cells: u8, arguments: u8) -> Option<Token>
-        ensures { option_map meant result ≡ token cells arguments kind y }
+    // The token of a kind and a number in a scope.
+    fn new(kind: u8, y: u16, scope: Scope) -> Option<Token>
+        ensures { option_map meant result ≡ token scope.cells scope.arguments kind y }
     {
         match kind {
-            0 => Some(Token::Constant(signed(y))),
-            1 if y < cells as u16 => Some(Token::Cell((y % 256) as u8)),
-            2 if y < arguments as u16 => Some(Token::Argument((y % 256) as u8)),
-            3 if y <= 5 => Some(Token::Operator(operator(y))),
+            0 => Some(Token::Constant(y.cast_signed())),
+            1 if y < u16::from(scope.cells) => Some(Token::Cell(y as u8)),
+            2 if y < u16::from(scope.arguments) => Some(Token::Argument(y as u8)),
+            3 if y <= 5 => Some(Token::Operator(Operator::from(y as u8))),
             _ => None,
         }
     }
 
-    // The token at an index of an expression, none if fewer than three bytes are left.
-    pub(crate) fn at(c: &[u8], i: usize, cells: u8, arguments: u8) -> Option<Token>
-        requires { i ≤ length c.now }
-        ensures { option_map meant result ≡ first_token cells arguments (drop i c.now) }
+    // The token of the first three bytes.
+    pub(crate) fn read(bytes: &[u8], scope: Scope) -> Option<Token>
+        ensures { option_map meant result ≡ first_token scope.cells scope.arguments bytes.now }
     {
-        if c.len() - i < 3 {
-            return None;
-        }
-        let y = c[i + 1] as u16 * 256 + c[i + 2] as u16;
-        Token::new(c[i], y, cells, arguments)
+        let [kind, high, low] = *bytes.first_chunk::<3>()?;
+        Token::new(kind, u16::from_be_bytes([high, low]), scope)
     }
 
     // How many values are held behind the token, with so many before it: none if there are too few
@@ -91,20 +73,18 @@ impl Token {
 }
 
 // Whether the bytes are tokens that hold at most eight values, and one at the end.
-pub(crate) fn balanced(c: &[u8], cells: u8, arguments: u8) -> bool
-    ensures { result ≡ well_held 0 (tokens cells arguments c.now) }
+pub(crate) fn balanced(c: &[u8], scope: Scope) -> bool
+    ensures { result ≡ well_held 0 (tokens scope.cells scope.arguments c.now) }
 {
     let mut d = 0;
-    let mut i = 0;
-    while i < c.len() {
-        let Some(t) = Token::at(c, i, cells, arguments) else {
+    for bytes in c.chunks(3) {
+        let Some(t) = Token::read(bytes, scope) else {
             return false;
         };
         let Some(e) = t.held(d) else {
             return false;
         };
         d = e;
-        i += 3;
     }
     d == 1
 }

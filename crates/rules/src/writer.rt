@@ -1,5 +1,5 @@
 // The blocks of a rule policy, in bytes.
-ghost use Rattle.std.specs.Prelude.{◌≡◌, ℕ, ◌+◌, ◌-◌, ◌<◌, ◌≤◌, true, List, [], ◌∷◌, length};
+ghost use Rattle.std.specs.Prelude.{◌≡◌, ℕ, ◌<◌, true, List, length};
 ghost use Rattle.model.specs.Calls.{block_bytes};
 ghost use Rattle.policy.specs.Calls.{put_at};
 ghost use Rattle.model.specs.Rules.{Expr, Rule, Update, emit, emit_updates, rules_of, block_of, expr_bytes, ValidExpr};
@@ -7,18 +7,11 @@ ghost use Rattle.rules.specs.Tokens.{meant, room};
 ghost use Rattle.rules.specs.Views.{Written, WrittenUpdates};
 ghost use Rattle.rules.specs.Writer.{Puts, IsCoded, Cells, Fitting, rule_code};
 
-use crate::sizes::{block_len, is_for, updates_len};
-use crate::tokens::{Token, arguments};
-use crate::views::{first_rule, first_update};
+use crate::sizes::{block_len, updates_len};
+use crate::tokens::{Scope, Token};
+use crate::views::{RuleView, RuleViews, UpdateViews};
 use model::{Moment, Test};
 use policy::put;
-
-// Writes an instruction at a place of the area, if there is room, and gives the place behind it.
-fn put_next(area: &mut [u8], at: usize, test: Test) -> usize
-    ensures { Puts area.old at (test ∷ []) result area.new }
-{
-    put(area, at, test)
-}
 
 // The instruction of a token that is met with so many values held.
 fn code(t: Token, d: u8, first: u8) -> Test
@@ -27,7 +20,7 @@ fn code(t: Token, d: u8, first: u8) -> Test
 {
     match t {
         Token::Constant(z) => Test::Mset(d, z),
-        Token::Cell(i) => Test::Mcell(d, cell(first, i)),
+        Token::Cell(i) => Test::Mcell(d, first.saturating_add(i)),
         Token::Argument(i) => Test::Marg(d, i),
         Token::Operator(o) => Test::Op(d - 2, o),
     }
@@ -37,55 +30,36 @@ fn code(t: Token, d: u8, first: u8) -> Test
 fn count(n: usize) -> u16
     ensures { n < 65536 → result ≡ n }
 {
-    if n < 65536 { n as u16 } else { 65535 }
-}
-
-// The number of a cell behind the first.
-fn cell(first: u8, i: u8) -> u8
-    ensures { first + i ≤ 255 → result ≡ first + i }
-{
-    first.saturating_add(i)
+    u16::try_from(n).unwrap_or(u16::MAX)
 }
 
 // Writes the code of an expression at a place, and gives the place behind it.
-fn put_expr(area: &mut [u8], at: usize, c: &[u8], width: u8, readable: u8, first: u8) -> usize
-    ensures { (ts : Expr) → c.now ≡ expr_bytes ts → ValidExpr width readable ts → Cells width first → Puts area.old at (emit first 0 ts) result area.new }
+fn put_expr(area: &mut [u8], at: usize, c: &[u8], scope: Scope, first: u8) -> usize
+    ensures { (ts : Expr) → c.now ≡ expr_bytes ts → ValidExpr scope.cells scope.arguments ts → Cells scope.cells first → Puts area.old at (emit first 0 ts) result area.new }
 {
     let mut to = at;
     let mut d = 0;
-    let mut i = 0;
-    while i < c.len() {
-        let Some(t) = Token::at(c, i, width, readable) else {
+    for bytes in c.chunks(3) {
+        let Some(t) = Token::read(bytes, scope) else {
             return to;
         };
         let Some(e) = t.held(d) else {
             return to;
         };
-        to = put_next(area, to, code(t, d, first));
+        to = put(area, to, code(t, d, first));
         d = e;
-        i += 3;
     }
     to
 }
 
 // Writes the code of updates at a place, each closed by a store, and gives the place behind it.
-fn put_updates(
-    area: &mut [u8],
-    at: usize,
-    updates: &[u8],
-    width: u8,
-    readable: u8,
-    first: u8,
-) -> usize
-    ensures { (us : List Update) → WrittenUpdates width readable updates.now us → Cells width first → Puts area.old at (emit_updates first us) result area.new }
+fn put_updates(area: &mut [u8], at: usize, updates: &[u8], scope: Scope, first: u8) -> usize
+    ensures { (us : List Update) → WrittenUpdates scope.cells scope.arguments updates.now us → Cells scope.cells first → Puts area.old at (emit_updates first us) result area.new }
 {
     let mut to = at;
-    let mut rest = updates;
-    while rest.len() > 0 {
-        let u = first_update(rest);
-        let end = put_expr(area, to, u.value, width, readable, first);
-        to = put_next(area, end, Test::Store(0, cell(first, u.cell)));
-        rest = u.rest;
+    for u in UpdateViews(updates) {
+        let end = put_expr(area, to, u.value, scope, first);
+        to = put(area, end, Test::Store(0, first.saturating_add(u.cell)));
     }
     to
 }
@@ -95,27 +69,18 @@ fn put_updates(
 fn put_rule(
     area: &mut [u8],
     at: usize,
-    guard: &[u8],
-    updates: &[u8],
-    width: u8,
-    readable: u8,
+    rule: &RuleView,
+    scope: Scope,
     first: u8,
     behind: usize,
 ) -> usize
-    ensures { (ts : Expr) (us : List Update) → guard.now ≡ expr_bytes ts → ValidExpr width readable ts → WrittenUpdates width readable updates.now us → Cells width first → length (emit_updates first us) < 65535 → behind < 65536 → Puts area.old at (rule_code first ts us behind) result area.new }
+    ensures { (ts : Expr) (us : List Update) → rule.now.guard.now ≡ expr_bytes ts → ValidExpr scope.cells scope.arguments ts → WrittenUpdates scope.cells scope.arguments rule.now.updates.now us → Cells scope.cells first → length (emit_updates first us) < 65535 → behind < 65536 → Puts area.old at (rule_code first ts us behind) result area.new }
 {
-    let n = updates_len(updates);
-    let a = put_expr(area, at, guard, width, readable, first);
-    let b = put_next(area, a, Test::Skz(0, count(n + 1)));
-    let c = put_updates(area, b, updates, width, readable, first);
-    put_next(area, c, Test::Skip(count(behind)))
-}
-
-// How many are left of so many.
-fn less(a: usize, b: usize) -> usize
-    ensures { result ≡ a - b }
-{
-    if a < b { 0 } else { a - b }
+    let n = updates_len(rule.updates);
+    let a = put_expr(area, at, rule.guard, scope, first);
+    let b = put(area, a, Test::Skz(0, count(n + 1)));
+    let c = put_updates(area, b, rule.updates, scope, first);
+    put(area, c, Test::Skip(count(behind)))
 }
 
 // Writes the block for a call, a moment and a first cell at the front of an area that has room for it,
@@ -134,24 +99,13 @@ pub(crate) fn write_rules(
     if left == 0 {
         return;
     }
+    let scope = Scope::at(width, moment);
     let mut to = 0;
-    let mut rest = rules;
-    while rest.len() > 0 {
-        let r = first_rule(rest);
-        if is_for(r.call, r.moment, call, moment) {
-            left = less(left, r.guard.len() / 3 + updates_len(r.updates) + 2);
-            to = put_rule(
-                area,
-                to,
-                r.guard,
-                r.updates,
-                width,
-                arguments(moment),
-                first,
-                left,
-            );
+    for r in RuleViews(rules) {
+        if r.is_for(call, moment) {
+            left = left.saturating_sub(r.guard.len() / 3 + updates_len(r.updates) + 2);
+            to = put_rule(area, to, &r, scope, first, left);
         }
-        rest = r.rest;
     }
-    put_next(area, to, Test::Viol);
+    put(area, to, Test::Viol);
 }

@@ -6,6 +6,7 @@ use Rattle.model.specs.Moments.{moment_of}
 use Rattle.model.specs.Policy.{arguments}
 use Rattle.model.specs.Rules.{update_field, rule_field}
 use Rattle.rules.specs.Reader.{headed, bad_expr, bad_update, bad_rule, one_bad, faulty}
+use Rattle.rules.specs.declared.tokens.Scope.{Scope}
 use Rattle.rules.proofs.Reading.{here, behind_guard, rule_unheaded, rule_unguarded, rule_missized, rule_rest}
 use Rattle.rules.proofs.reader.rule.Goals as goal
 use Rattle.rules.proofs.reader.rule.Goals.{After-updates}
@@ -34,14 +35,15 @@ rest : (c : After-updates) → one_bad (bad_rule c.args.cells) (rule_field c.arg
     ≡ behind_guard c.fault-bad.result c.updates.result
 rest c =
     let t = take_rest c.args.holder.now (c.args.at + 3) in
-    let a : arguments (moment_of (get_or (drop (c.args.at + 3) c.args.holder.now) 1 0)) ≡ c.arguments-a.result =
-    sym (c.arguments-a.ensures ∙ ap arguments (c.moment.ensures ∙ ap (λ xs. moment_of (get_or xs 1 0)) t)) in
+    let m = c.from.ensures ∙ ap (λ xs. moment_of (get_or xs 1 0)) t in
+    let a : record { cells = c.args.cells; arguments = arguments (moment_of (get_or (drop (c.args.at + 3) c.args.holder.now) 1 0)) } ≡ c.at-scope.result =
+    sym (c.at-scope.ensures ∙ ap (λ t. record { cells = c.args.cells; arguments = arguments t }) m) in
     let w = rule_rest c.args.cells c.args.at c.args.holder.now (ap headed (sym t) ∙ sym c.if-not-headed.ensures) _ _
     (here c.args.holder.now 68 (c.args.at + 5) c.in_ok-g.g.contents.now c.in_ok-g.g.next c.in_ok-g.ensures)
     (sym c.if-not-triples.ensures) in
     w
-    ∙ ap (λ k. behind_guard (bad_expr c.args.cells k (c.args.at + 5) c.in_ok-g.g.contents.now)
-    (faulty (bad_update c.args.cells k) None (fields 8 69 (update_field c.args.cells) c.in_ok-g.g.next (drop c.in_ok-g.g.next c.args.holder.now)))) a
+    ∙ ap (λ (s : Scope). behind_guard (bad_expr s.cells s.arguments (c.args.at + 5) c.in_ok-g.g.contents.now)
+    (faulty (bad_update s.cells s.arguments) None (fields 8 69 (update_field s.cells) c.in_ok-g.g.next (drop c.in_ok-g.g.next c.args.holder.now)))) a
     ∙ ap₂ behind_guard (sym c.fault-bad.ensures) (sym c.updates.ensures)
 
 pub returns-in_err-more : goal.returns-in_err-more
@@ -51,4 +53,4 @@ returns-in_err-more c =
 
 pub returns : goal.returns
 returns c =
-    ap Ok c.earlier.ensures ∙ sym (rest (goal.at.returns c).After-updates ∙ ap (behind_guard c.fault-bad.result) c.in_ok-more.was)
+    ap Ok c.or.ensures ∙ sym (rest (goal.at.returns c).After-updates ∙ ap (behind_guard c.fault-bad.result) c.in_ok-more.was)

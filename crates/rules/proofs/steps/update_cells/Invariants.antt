@@ -1,13 +1,10 @@
-use Rattle.std.proofs.Common.{◌≡◌, List, length}
+use Rattle.std.proofs.Common.{◌≡◌, List, [], ◌∷◌, ◌++◌}
 use Rattle.model.specs.Rules.{Update, updated}
 use Rattle.rules.specs.Views.{WrittenUpdates}
 use Rattle.rules.proofs.steps.update_cells.Given as goal
 
 -- the updates left make of the cells what all made of them
-abbrev pub invariant-loop-rest : goal.invariant-loop-rest
-invariant-loop-rest l =
-    (us : List Update) → WrittenUpdates l.width l.readable l.updates us →
-    (vs : List Update) × WrittenUpdates l.width l.readable l.rest vs × (updated l.args vs l.cells ≡ updated l.args us l.initial.cells)
-
-abbrev pub decreases-loop-rest : goal.decreases-loop-rest
-decreases-loop-rest l = length l.rest
+abbrev pub invariant-loop-u : goal.invariant-loop-u
+invariant-loop-u l =
+    (us : List Update) → WrittenUpdates l.scope.cells l.scope.arguments l.updates us →
+    (vs : List Update) × WrittenUpdates l.scope.cells l.scope.arguments l.u-iterator.0.now vs × (updated (l.event.args ++ (l.event.answer ∷ [])) vs l.cells ≡ updated (l.event.args ++ (l.event.answer ∷ [])) us l.initial.cells)

@@ -1,43 +1,38 @@
-use Rattle.std.proofs.Common.{◌+◌, length, sym, refl, ap, ◌∙◌, subst₂, arith, w32, SFits, rules}
-use Rattle.std.proofs.lemmas.Int.{to_z-of_z}
-use Rattle.model.specs.Rules.{value}
-use Rattle.rules.specs.Tokens.{meant, room, after}
-use Rattle.rules.proofs.Expressions.{given_by}
-use Rattle.rules.proofs.Stack.{Left, left_start, left_some, left_more, left_end, few_more, three_off}
+use Rattle.std.proofs.Common.{◌≡◌, [], ◌∷◌, ◌++◌, length, get_or, pos, Some, sym, ap, ◌∙◌, subst₂}
+use Rattle.std.specs.Slice.Iter.{chunks_rest, chunks_size}
+use Rattle.model.specs.Rules.{values, value}
+use Rattle.rules.specs.Tokens.{meant}
+use Rattle.rules.specs.Values.{held}
+use Rattle.rules.proofs.Expressions.{Unread, by_chunk, unread_start, unread_more}
+use Rattle.rules.proofs.Stack.{taken_long}
 use Rattle.rules.proofs.values.evaluate.Goals as goal
 
-pub loop-i-init : goal.loop-i-init
-loop-i-init c = (
-  omega arith,
-  omega arith,
-  refl,
-  λ ts e w. left_start c.args.width c.args.readable c.args.args.now c.args.cells.now c.args.c.now _ ts _ e w refl,
-)
-
-pub returns-in_default : goal.returns-in_default
-returns-in_default c ts e w =
-    absurd (left_some c.args.width c.args.readable c.args.args.now c.args.cells.now c.args.c.now _ c.loop-i.i c.loop-i.d c.loop-i.stack
-    (c.loop-i.invariant.3 ts e w) c.loop-i-test.true (sym c.in_default.ensures))
-
-pub loop-i-preserved : goal.loop-i-preserved
-loop-i-preserved c =
-    let t = meant c.in-Some.t in
-    let g = given_by (room c.loop-i.d t) (after c.loop-i.d t) c.in-Some-push.e c.in-Some-push.ensures.held in
-    let m = c.push.ensures.stack in
-    let f = few_more c.args.args.now c.args.cells.now c.loop-i.d t c.loop-i.stack c.loop-i.invariant.1 c.loop-i.invariant.2 g.0 in (
-      three_off c.args.width c.args.readable c.args.c.now c.loop-i.i t c.loop-i.invariant.0 (sym c.in-Some.ensures),
-      rw g.1 f.0,
-      ap length (m g.0) ∙ f.1,
-      λ ts e w.
-          subst₂ (Left c.args.width c.args.readable c.args.args.now c.args.cells.now c.args.c.now (value c.args.args.now c.args.cells.now ts) (c.loop-i.i + 3))
-          (sym g.1) (sym (m g.0))
-          (left_more c.args.width c.args.readable c.args.args.now c.args.cells.now c.args.c.now _ c.loop-i.i c.loop-i.d c.loop-i.stack
-          (c.loop-i.invariant.3 ts e w) t (sym c.in-Some.ensures) c.loop-i.invariant.2 c.loop-i.invariant.1),
+pub loop-bytes-init : goal.loop-bytes-init
+loop-bytes-init c =
+    let i = c.into_iter-bytes-iterator.ensures.into_iter_gives in
+    let args = c.args.event.now.args ++ (c.args.event.now.answer ∷ []) in (
+      ap chunks_size i ∙ c.chunks-bytes-items.ensures.size,
+      λ ts e w. (
+        unread_start c.args.scope.cells c.args.scope.arguments _ _ ts (ap chunks_rest i ∙ c.chunks-bytes-items.ensures.rest ∙ e) (ap length c.new-stack.ensures) w,
+        ap (λ vs. get_or (values args c.args.cells.now ts vs) 0 (pos 0)) c.new-stack.ensures,
+      ),
     )
 
-pub returns : goal.returns
-returns c ts e w =
-    let g : SFits w32 c.number_at.result = search rules in
-    to_z-of_z w32 c.number_at.result g ∙ c.number_at.ensures
-    ∙ left_end c.args.width c.args.readable c.args.args.now c.args.cells.now c.args.c.now _ c.loop-i.i c.loop-i.d c.loop-i.stack
-    (c.loop-i.invariant.3 ts e w) c.loop-i-test.false
+pub loop-bytes-preserved : goal.loop-bytes-preserved
+loop-bytes-preserved c = (
+  c.in-Some.ensures.steps.0 ∙ c.loop-bytes.invariant.0,
+  λ ts e w.
+      let n = c.args.scope.cells in
+      let a = c.args.scope.arguments in
+      let args = c.args.event.now.args ++ (c.args.event.now.answer ∷ []) in
+      let cells = c.args.cells.now in
+      let z = chunks_rest c.next.new.self in
+      let i = c.loop-bytes.invariant.1 ts e w in
+      let t = meant c.in-Some-read.t in
+      let vs = held c.loop-bytes.stack.values c.loop-bytes.stack.depth in
+      let o = unread_more n a _ _ i.0 t z (by_chunk n a _ _ _ _ (Some t) c.loop-bytes.invariant.0 c.in-Some.ensures.steps.1 c.in-Some-read.ensures) in
+      let k = (c.carry_out.ensures o.roomy).1 in
+      let l = taken_long args cells t vs o.roomy in
+      subst₂ (λ d ws. (u : Unread n a z d) × (get_or (values args cells u.rest ws) 0 (pos 0) ≡ value args cells ts)) (sym (ap length k ∙ l)) (sym k)
+      (o.more, sym (ap (λ r. get_or (values args cells r vs) 0 (pos 0)) o.all) ∙ i.1),
+)

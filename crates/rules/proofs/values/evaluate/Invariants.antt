@@ -1,14 +1,14 @@
-use Rattle.std.proofs.Common.{◌≡◌, ◌-◌, ◌≤◌, length}
-use Rattle.model.specs.Rules.{Expr, value, expr_bytes, ValidExpr}
-use Rattle.rules.proofs.Stack.{Left}
+use Rattle.std.proofs.Common.{◌≡◌, [], ◌∷◌, ◌++◌, length, get_or, pos}
+use Rattle.std.specs.Slice.Iter.{chunks_rest, chunks_size}
+use Rattle.model.specs.Rules.{Expr, values, value, expr_bytes, ValidExpr}
+use Rattle.rules.specs.Values.{held}
+use Rattle.rules.proofs.Expressions.{Unread}
 use Rattle.rules.proofs.values.evaluate.Given as goal
 
 -- what is left comes to the value of the whole
-abbrev pub invariant-loop-i : goal.invariant-loop-i
-invariant-loop-i l =
-    (l.i ≤ length l.c) × (l.d ≤ 8) × (length l.stack ≡ 8)
-    × ((ts : Expr) → l.c ≡ expr_bytes ts → ValidExpr l.width l.readable ts →
-    Left l.width l.readable l.args l.cells l.c (value l.args l.cells ts) l.i l.d l.stack)
-
-abbrev pub decreases-loop-i : goal.decreases-loop-i
-decreases-loop-i l = length l.c - l.i
+abbrev pub invariant-loop-bytes : goal.invariant-loop-bytes
+invariant-loop-bytes l =
+    (chunks_size l.bytes-iterator ≡ 3)
+    × ((ts : Expr) → l.c ≡ expr_bytes ts → ValidExpr l.scope.cells l.scope.arguments ts →
+    (u : Unread l.scope.cells l.scope.arguments (chunks_rest l.bytes-iterator) (length (held l.stack.values l.stack.depth)))
+    × (get_or (values (l.event.args ++ (l.event.answer ∷ [])) l.cells u.rest (held l.stack.values l.stack.depth)) 0 (pos 0) ≡ value (l.event.args ++ (l.event.answer ∷ [])) l.cells ts))

@@ -6,10 +6,7 @@ use Rattle.rules.proofs.Wrote.{Wrote}
 use Rattle.rules.proofs.writer.put_updates.Given as goal
 
 -- the code of the updates left is left to write
-abbrev pub invariant-loop-rest : goal.invariant-loop-rest
-invariant-loop-rest l =
-    (us : List Update) → WrittenUpdates l.width l.readable l.updates us → Cells l.width l.first → l.at + 4 * length (emit_updates l.first us) ≤ length l.initial.area →
-    (vs : List Update) × WrittenUpdates l.width l.readable l.rest vs × Wrote l.initial.area l.at (emit_updates l.first us) (emit_updates l.first vs) l.to l.area
-
-abbrev pub decreases-loop-rest : goal.decreases-loop-rest
-decreases-loop-rest l = length l.rest
+abbrev pub invariant-loop-u : goal.invariant-loop-u
+invariant-loop-u l =
+    (us : List Update) → WrittenUpdates l.scope.cells l.scope.arguments l.updates us → Cells l.scope.cells l.first → l.at + 4 * length (emit_updates l.first us) ≤ length l.initial.area →
+    (vs : List Update) × WrittenUpdates l.scope.cells l.scope.arguments l.u-iterator.0.now vs × Wrote l.initial.area l.at (emit_updates l.first us) (emit_updates l.first vs) l.to l.area

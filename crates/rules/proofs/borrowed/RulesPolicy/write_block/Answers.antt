@@ -13,25 +13,25 @@ use Rattle.rules.proofs.borrowed.RulesPolicy.write_block.Goals as goal
 pub returns-in_err-may_write : goal.returns-in_err-may_write
 returns-in_err-may_write c =
     let p = err_from_is_err_and c.from_residual.result c.from_residual.ensures.1 in
-    let f = c.args.self.now.file.now in
+    let f = c.args.self.now.file.bytes.now in
     let A = rules_automaton (rules_in f) in
-    let v = c.cells_of-cells.ensures.value in
-    let w : c.cells_of-cells.result ≡ told_width A = (let u = c.cells_of-cells.ensures.few in omega arith) in
-    let h = block_refused A (rules_block (rules_in f)) (rules_shown f c.args.self.now.ok) c.args.call c.args.moment c.args.first c.args.area.now
+    let v = c.width-width.ensures.value in
+    let w : c.width-width.result ≡ told_width A = (let u = c.width-width.ensures.few in omega arith) in
+    let h = block_refused A (rules_block (rules_in f)) (rules_shown f c.args.self.now.file.reads) c.args.call c.args.moment c.args.first c.args.area.now
     c.in_err-may_write.field-0.0
     (c.in_err-may_write.ensures ∙ ap₂ (λ n l. may_write c.args.call n c.args.first l (length c.args.area.now)) w c.block_len-n.ensures) in
     record { answer = p.1 ∙ ap Err p.2 ∙ h.0; area = h.1 }
 
 pub returns : goal.returns
 returns c =
-    let f = c.args.self.now.file.now in
+    let f = c.args.self.now.file.bytes.now in
     let q = rules_in f in
     let A = rules_automaton q in
-    let v = c.cells_of-cells.ensures.value in
-    let w : c.cells_of-cells.result ≡ told_width A = (let u = c.cells_of-cells.ensures.few in omega arith) in
-    let h = block_allowed A (rules_block q) (rules_shown f c.args.self.now.ok) c.args.call c.args.moment c.args.first c.args.area.now
+    let v = c.width-width.ensures.value in
+    let w : c.width-width.result ≡ told_width A = (let u = c.width-width.ensures.few in omega arith) in
+    let h = block_allowed A (rules_block q) (rules_shown f c.args.self.now.file.reads) c.args.call c.args.moment c.args.first c.args.area.now
     (c.in_ok-may_write.ensures ∙ ap₂ (λ n l. may_write c.args.call n c.args.first l (length c.args.area.now)) w c.block_len-n.ensures) in
-    let cs : Cells c.cells_of-cells.result c.args.first = (λ i l. let k = h.wide (λ z. omega arith) in omega arith) in
+    let cs : Cells c.width-width.result c.args.first = (λ i l. let k = h.wide (λ z. omega arith) in omega arith) in
     let r = c.rules_for-rules.ensures in
     let wr = subst (λ n. Written n c.rules_for-rules.result.now r.0) (sym v) r.1 in
     let fit = subst (λ R. Fitting c.args.area.now (block_of c.args.first R)) (sym r.2) (h.short, h.room) in
