@@ -1,5 +1,5 @@
 -- registers and frames
-pub mod Frames
+pub mod Calling
 -- threads
 pub mod Rows
 -- the instruction at an index

@@ -1,7 +1,7 @@
 -- Threads in the list of them, and the machine after a step of one.
-use Rattle.std.proofs.Common.{◌≡◌, ℕ, zero, suc, ◌+◌, ◌<◌, ◌≤◌, min, Bool, true, false, ltb, List, [], ◌∷◌, ◌++◌, length, get_or, take, drop, set, ℤ, pos, IfOk, Some, None, Ok, Err, Result, sym, refl, ap, ◌∙◌, arith}
+use Rattle.std.proofs.Common.{◌≡◌, ℕ, zero, suc, ◌+◌, ◌<◌, ◌≤◌, min, Bool, true, false, ltb, List, [], ◌∷◌, ◌++◌, length, get_or, take, drop, set, ℤ, IfOk, Some, None, Ok, Err, Result, sym, refl, ap, ◌∙◌, arith}
 use Rattle.model.specs.declared.Refusal.{Refusal}
-use Rattle.machine.specs.declared.threads.Stand.{Stand}
+use Rattle.machine.specs.declared.frames.Stand.{Stand}
 use Rattle.model.specs.Policy.{Turn}
 use Rattle.model.specs.Machine as model
 use Rattle.model.specs.Machine.{holds, lock_step, unlock_step, test_step, own_step, onward, with_status, with_top, goto, reg}
@@ -43,30 +43,6 @@ thread_put zero t us u = refl
 thread_put (suc n) t [] u = refl
 thread_put (suc n) zero (v ∷ us) u = refl
 thread_put (suc n) (suc t) (v ∷ us) u = ap (λ (r : List model.Thread). thread_of v ∷ r) (thread_put n t us u)
-
-pub five : (P : List ℤ → Type 0) → ((a b c d e : ℤ) → P (a ∷ b ∷ c ∷ d ∷ e ∷ [])) → (xs : List ℤ) → length xs ≡ 5 → P xs
-five P p [] l = absurd (omega arith)
-five P p (a ∷ []) l = absurd (omega arith)
-five P p (a ∷ b ∷ []) l = absurd (omega arith)
-five P p (a ∷ b ∷ c ∷ []) l = absurd (omega arith)
-five P p (a ∷ b ∷ c ∷ d ∷ []) l = absurd (omega arith)
-five P p (a ∷ b ∷ c ∷ d ∷ e ∷ []) l = p a b c d e
-five P p (a ∷ b ∷ c ∷ d ∷ e ∷ f ∷ xs) l = absurd (omega arith)
-
-four : (P : List ℤ → Type 0) → ((a b c d : ℤ) → P (a ∷ b ∷ c ∷ d ∷ [])) → (xs : List ℤ) → length xs ≡ 4 → P xs
-four P p [] l = absurd (omega arith)
-four P p (a ∷ []) l = absurd (omega arith)
-four P p (a ∷ b ∷ []) l = absurd (omega arith)
-four P p (a ∷ b ∷ c ∷ []) l = absurd (omega arith)
-four P p (a ∷ b ∷ c ∷ d ∷ []) l = p a b c d
-four P p (a ∷ b ∷ c ∷ d ∷ e ∷ xs) l = absurd (omega arith)
-
--- four numbers over the first four of five
-abbrev Copied : List ℤ → List ℤ → Type 0
-Copied r a = set (set (set (set a 0 (get_or r 0 (pos 0))) 1 (get_or r 1 (pos 0))) 2 (get_or r 2 (pos 0))) 3 (get_or r 3 (pos 0)) ≡ r ++ drop 4 a
-
-pub copied : (r a : List ℤ) → length r ≡ 4 → length a ≡ 5 → Copied r a
-copied r a l k = four (λ r. Copied r a) (λ q s t u. five (Copied (q ∷ s ∷ t ∷ u ∷ [])) (λ b c d e f. refl) a k) r l
 
 -- what holds of the value in an Ok
 pub made_to : {X E : Type 0} (P Q : X → Type 0) (r : Result X E) → ((x : X) → P x → Q x) → IfOk r P → IfOk r Q

@@ -1,6 +1,6 @@
 -- Threads that were just started.
-use Rattle.std.proofs.Common.{◌≡◌, ℕ, zero, suc, ◌+◌, ◌<◌, ◌≤◌, ◌≢◌, List, [], ◌∷◌, ◌++◌, map, length, get_or, take, drop, set, ℤ, pos, Some, None, Ok, Err, sym, refl, ap, ◌∙◌, add-one, arith, get_or-set_other, get_or-set_same, below_more}
-use Rattle.model.proofs.Options.{none_some}
+use Rattle.std.proofs.Common.{◌≡◌, ℕ, zero, suc, ◌+◌, ◌<◌, ◌≤◌, ◌≢◌, List, [], ◌∷◌, ◌++◌, map, length, get_or, take, drop, set, ℤ, pos, Ok, Err, sym, refl, ap, ◌∙◌, add-one, arith, get_or-set_other, get_or-set_same, below_more}
+use Rattle.std.specs.Option.{unwrap_or}
 use Rattle.applet.specs.Applets.{nth}
 use Rattle.model.specs.Machine as model
 use Rattle.model.specs.declared.Refusal.{Refusal}
@@ -40,15 +40,10 @@ pub filled : (xs ys zs : List ℤ) (i : ℕ) (v : ℤ) → zs ≡ take i xs ++ d
 filled xs ys zs i v f e k l = rw (f, e, add-one i) (filled_from xs ys i k l)
 
 -- what stands at an index, or the default
-pub nth_some : (xs : List ℤ) (i : ℕ) (v : ℤ) → Some v ≡ nth xs i → v ≡ get_or xs i (pos 0)
-nth_some [] i v e = absurd (none_some (sym e))
-nth_some (x ∷ xs) zero v e = cc
-nth_some (x ∷ xs) (suc i) v e = nth_some xs i v e
-
-pub nth_none : (xs : List ℤ) (i : ℕ) → None ≡ nth xs i → pos 0 ≡ get_or xs i (pos 0)
-nth_none [] i e = refl
-nth_none (x ∷ xs) zero e = absurd (none_some e)
-nth_none (x ∷ xs) (suc i) e = nth_none xs i e
+pub nth_or : (xs : List ℤ) (i : ℕ) → unwrap_or (nth xs i) (pos 0) ≡ get_or xs i (pos 0)
+nth_or [] i = refl
+nth_or (x ∷ xs) zero = refl
+nth_or (x ∷ xs) (suc i) = nth_or xs i
 
 -- what is read is loaded
 pub load_ok : (f : List ℕ) (a : model.Applet) (m : model.Machine) → Ok a ≡ read_applet f → m ≡ fresh a → Ok (record { applet = a; machine = m }) ≡ load_file f

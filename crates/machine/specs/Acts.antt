@@ -2,17 +2,18 @@
 use Rattle.std.specs.Prelude.{ℕ, Bool, true, false, List, [], ◌∷◌, ◌++◌, length, drop, Some, None, Ok, Err, Option, Result}
 use Rattle.model.specs.declared.Refusal.{Refusal}
 use Rattle.model.specs.declared.Refusal.TheVariants.{AreaTooShort}
+use Rattle.model.specs.Machine.{is_raised, reply_value}
 use Rattle.model.specs.Runs as model
 use Rattle.machine.specs.declared.acts.Act.{Act}
 use Rattle.machine.specs.declared.acts.Seen.{Seen}
 
 abbrev pub act_of : Act → model.Act
 act_of (Act.Step t) = model.Act.step_of t
-act_of (Act.Answer t b v) = model.Act.answer_to t b v
+act_of (Act.Answer t r) = model.Act.answer_to t (is_raised r) (reply_value r)
 
 abbrev pub seen_of : Seen → model.Seen
 seen_of (Seen.Call t k a) = model.Seen.call t k a
-seen_of (Seen.Reply t b v) = model.Seen.reply t b v
+seen_of (Seen.Reply t r) = model.Seen.reply t (is_raised r) (reply_value r)
 
 -- what is seen of one act: one thing at most
 abbrev pub seen_list : Option Seen → List model.Seen

@@ -9,9 +9,10 @@ use Rattle.model.specs.Machine as model
 use Rattle.model.specs.declared.Status.{Status}
 use Rattle.model.specs.declared.Own.{Own}
 use Rattle.model.specs.declared.Instr.{Instr}
-use Rattle.machine.specs.declared.threads.Frame.{Frame}
+use Rattle.machine.specs.declared.frames.Stand.{Stand}
+use Rattle.machine.specs.declared.frames.Frame.{Frame}
+use Rattle.machine.specs.declared.frames.Callers.{Callers}
 use Rattle.machine.specs.declared.threads.Thread.{Thread}
-use Rattle.machine.specs.declared.threads.Stand.{Stand}
 use Rattle.machine.specs.declared.states.State.{State}
 
 -- how many instructions a test passes over; none if it stops the machine
@@ -43,26 +44,39 @@ index_of Status.Ended i = i
 abbrev pub no_frame : Frame
 no_frame = record { method = 0; index = 0; regs = [] }
 
+-- a frame that does not wait
+abbrev pub frame_of : Frame → model.Frame
+frame_of f = record { method = f.method; index = f.index; regs = f.regs }
+
 -- a caller
 abbrev pub caller_of : Frame → model.Frame
 caller_of f = record { method = f.method; index = waiting f.index; regs = f.regs }
 
 -- the first n frames, the last of them first
-abbrev pub callers_of : ℕ → List Frame → List model.Frame
-callers_of zero fs = []
-callers_of (suc n) fs = caller_of (slice_index_or fs n no_frame) ∷ callers_of n fs
+abbrev pub first_callers : ℕ → List Frame → List model.Frame
+first_callers zero fs = []
+first_callers (suc n) fs = caller_of (slice_index_or fs n no_frame) ∷ first_callers n fs
 
--- a thread; it has at most 15 callers
+-- the callers, at most 15
+abbrev pub callers_of : Callers → List model.Frame
+callers_of c = first_callers (min c.depth 15) c.frames
+
+-- a thread
 abbrev pub thread_of : Thread → model.Thread
 thread_of u = record {
   status = u.status;
   top = record { method = u.top.method; index = index_of u.status u.top.index; regs = u.top.regs };
-  callers = callers_of (min u.depth 15) u.callers;
+  callers = callers_of u.callers;
 }
+
+-- a thread that may run an instruction: it is ready, and its index is one of a method's
+pub record Runs (u : Thread) : Type 0 where
+  pub ready : u.status ≡ Status.Ready
+  pub low : u.top.index < 65536
 
 -- past the end of the threads
 abbrev pub no_thread : Thread
-no_thread = record { status = Status.Ready; depth = 0; top = no_frame; callers = [] }
+no_thread = record { status = Status.Ready; top = no_frame; callers = record { depth = 0; frames = [] } }
 
 -- the first n threads
 abbrev pub threads_of : ℕ → List Thread → List model.Thread
@@ -95,12 +109,11 @@ pub record Ready (m : State) (t : ℕ) : Type 0 where
   pub there : t < m.count
   pub ready : (stored m t).status ≡ Status.Ready
 
--- and its index is one of a method's
+-- thread t is there and may run an instruction
 pub record Steps (m : State) (t : ℕ) : Type 0 where
   pub room : t < 8
   pub there : t < m.count
-  pub ready : (stored m t).status ≡ Status.Ready
-  pub low : (stored m t).top.index < 65536
+  pub runs : Runs (stored m t)
 
 -- of a thread that there is, on a machine that has not stopped
 abbrev pub admitted : {X : Type 0} → Bool → Bool → Result X Refusal → Result X Refusal

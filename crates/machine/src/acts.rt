@@ -5,13 +5,13 @@ ghost use Rattle.machine.specs.Machines.{program, holds_now};
 ghost use Rattle.machine.specs.Acts.{act_of, seen_of, seen_list, run_said, written};
 
 use crate::machines::Machine;
-use model::{Outcome, Refusal};
+use model::{Outcome, Refusal, Reply};
 
-// One step of a thread, or one answer to it, raised or not, with its value.
+// One step of a thread, or one answer to it.
 #[derive(Clone, Copy, PartialEq, Eq, Debug)]
 pub enum Act {
     Step(u8),
-    Answer(u8, bool, i32),
+    Answer(u8, Reply),
 }
 
 // What the host sees: a call that a thread hands out, by its number and its four arguments, or the
@@ -19,7 +19,7 @@ pub enum Act {
 #[derive(Clone, Copy, PartialEq, Eq, Debug)]
 pub enum Seen {
     Call(u8, u8, [i32; 4]),
-    Reply(u8, bool, i32),
+    Reply(u8, Reply),
 }
 
 // Writes what was seen at index n, if anything was, and tells the index behind it.
@@ -50,10 +50,10 @@ impl Machine<'_> {
                 Ok(Outcome::Called(k, a)) => Some(Seen::Call(t, k, a)),
                 _ => None,
             },
-            Act::Answer(t, raised, v) => match self.answer(t, raised, v) {
-                Ok(()) => Some(Seen::Reply(t, raised, v)),
-                Err(_) => None,
-            },
+            Act::Answer(t, reply) => {
+                self.answer(t, reply).ok()?;
+                Some(Seen::Reply(t, reply))
+            }
         }
     }
 

@@ -5,7 +5,7 @@ ghost use Rattle.applet.specs.Applets.{or_end, meant};
 ghost use Rattle.machine.specs.Ranges.{Valid};
 ghost use Rattle.machine.specs.Views.{fetched};
 
-use crate::threads::Stand;
+use crate::frames::Stand;
 use applet::Applet;
 use model::{Instr, Own};
 use opcodes::decode;
@@ -15,10 +15,8 @@ pub(crate) fn fetch(applet: &Applet<'_>, at: Stand) -> Option<Instr>
     ensures value { or_end result ≡ fetched (meant applet.now) at }
     ensures valid { IfSome result (λ i. Valid i × (at.index < 65536)) }
 {
-    match applet.quad(at.method as usize, at.index) {
-        Some(bytes) => decode(bytes, applet.methods()),
-        None => None,
-    }
+    let bytes = applet.quad(at.method as usize, at.index)?;
+    decode(bytes, applet.methods())
 }
 
 // Where a HOST that is answered as raised goes on.

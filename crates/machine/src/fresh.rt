@@ -4,8 +4,9 @@ ghost use Rattle.model.specs.Machine.{new_thread, fresh as new_machine};
 ghost use Rattle.applet.specs.Applets.{meant};
 ghost use Rattle.machine.specs.Views.{thread_of, threads_of, machine_of};
 
+use crate::frames::{Callers, Frame};
 use crate::states::State;
-use crate::threads::{Frame, Thread};
+use crate::threads::Thread;
 use applet::Applet;
 use model::Status;
 
@@ -13,16 +14,14 @@ use model::Status;
 fn thread_in(method: u8) -> Thread
     ensures { thread_of result ≡ new_thread method }
 {
-    let top = Frame {
-        method,
-        index: 0,
-        regs: [0; 8],
-    };
+    let top = Frame::start(method, [0; 8]);
     Thread {
         status: Status::Ready,
-        depth: 0,
         top,
-        callers: [top; 15],
+        callers: Callers {
+            depth: 0,
+            frames: [top; 15],
+        },
     }
 }
 
@@ -31,6 +30,7 @@ fn start_in(threads: &mut [Thread; 8], entries: &[u8])
     requires { length entries.now ≤ 8 }
     ensures { threads_of (length entries.now) threads.new ≡ map new_thread entries.now }
 {
+    // Through `threads.iter_mut().zip(entries)` a proof learns of no element, so the place is written.
     for (i, method) in entries.iter().enumerate() {
         threads[i] = thread_in(*method);
     }
@@ -40,10 +40,7 @@ fn start_in(threads: &mut [Thread; 8], entries: &[u8])
 fn start_of(applet: &Applet<'_>, cell: usize) -> i32
     ensures { result ≡ slice_index_or (meant applet.now).starts cell (pos 0) }
 {
-    match applet.start(cell) {
-        Some(v) => v,
-        None => 0,
-    }
+    applet.start(cell).unwrap_or(0)
 }
 
 // Writes the start values over the first cells.
@@ -51,6 +48,7 @@ fn fill(cells: &mut [i32; 32], applet: &Applet<'_>)
     requires { length (meant applet.now).starts ≤ 32 }
     ensures { cells.new ≡ (meant applet.now).starts ++ drop (length (meant applet.now).starts) cells.old }
 {
+    // The applet tells its start values by their index: `applet.start(i)`.
     for i in 0..applet.starts() {
         cells[i] = start_of(applet, i);
     }

@@ -3,16 +3,17 @@
 
 mod acts;
 mod code;
+mod frames;
 mod fresh;
 mod looks;
 mod machines;
-mod numbers;
 mod states;
 mod threads;
 mod turns;
 
 pub use acts::{Act, Seen};
+pub use frames::{Callers, Frame, Stand};
 pub use looks::Position;
 pub use machines::Machine;
 pub use states::State;
-pub use threads::{Frame, Thread};
+pub use threads::Thread;

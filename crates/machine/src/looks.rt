@@ -22,104 +22,73 @@ pub struct Position {
     pub registers: [i32; 8],
 }
 
+// Each part of a position has a call of its own, for callers that ask for no more.
 impl State {
     // Thread t, as it is stored.
     fn thread(&self, t: u8) -> Option<&Thread>
         ensures { shown_thread result ≡ nth (machine_of self.now).threads t }
     {
-        if t < self.many() {
-            Some(&self.threads[t as usize])
-        } else {
-            None
-        }
+        self.threads[..self.many() as usize].get(t as usize)
     }
 
     pub fn status(&self, t: u8) -> Option<Status>
         ensures { result ≡ option_map (λ u. u.status) (nth (machine_of self.now).threads t) }
     {
-        match self.thread(t) {
-            Some(u) => Some(u.status),
-            None => None,
-        }
+        self.thread(t).map(|u| u.status)
     }
 
     // The method that the topmost frame runs.
     pub fn method(&self, t: u8) -> Option<u8>
         ensures { result ≡ option_map (λ u. u.top.method) (nth (machine_of self.now).threads t) }
     {
-        match self.thread(t) {
-            Some(u) => Some(u.top.method),
-            None => None,
-        }
+        self.thread(t).map(|u| u.at().method)
     }
 
     // The index at which the topmost frame stands.
     pub fn index(&self, t: u8) -> Option<u32>
         ensures { result ≡ option_map (λ u. u.top.index) (nth (machine_of self.now).threads t) }
     {
-        match self.thread(t) {
-            Some(u) => Some(u.index()),
-            None => None,
-        }
+        self.thread(t).map(|u| u.at().index)
     }
 
     // How many frames lie below the topmost one.
     pub fn depth(&self, t: u8) -> Option<u8>
         ensures { result ≡ option_map (λ u. length u.callers) (nth (machine_of self.now).threads t) }
     {
-        match self.thread(t) {
-            Some(u) => Some(u.below()),
-            None => None,
-        }
+        self.thread(t).map(|u| u.callers.len())
     }
 
     // A register of the topmost frame.
     pub fn register(&self, t: u8, x: u8) -> Option<i32>
         ensures { result ≡ (if nat_lt x 8 then option_map (λ u. reg_of u.top x) (nth (machine_of self.now).threads t) else None) }
     {
-        if x >= 8 {
-            return None;
-        }
-        match self.thread(t) {
-            Some(u) => Some(u.reg(x)),
-            None => None,
-        }
+        self.thread(t)?.top.regs.get(x as usize).copied()
     }
 
     // Where a thread stands.
     pub fn position(&self, t: u8) -> Option<Position>
         ensures { result ≡ option_map position_of (nth (machine_of self.now).threads t) }
     {
-        match self.thread(t) {
-            Some(u) => Some(Position {
-                status: u.status,
-                method: u.top.method,
-                index: u.index(),
-                depth: u.below(),
-                registers: u.top.regs,
-            }),
-            None => None,
-        }
+        let u = self.thread(t)?;
+        Some(Position {
+            status: u.status,
+            method: u.top.method,
+            index: u.at().index,
+            depth: u.callers.len(),
+            registers: u.top.regs,
+        })
     }
 
     pub fn shared_number(&self, i: u8) -> Option<i32>
         ensures { result ≡ (if nat_lt i 64 then Some (slice_index_or (machine_of self.now).shared i (pos 0)) else None) }
     {
-        if i < 64 {
-            Some(self.shared[i as usize])
-        } else {
-            None
-        }
+        self.shared.get(i as usize).copied()
     }
 
     pub fn cell(&self, i: u8) -> Option<i32>
         ensures { result ≡ (if nat_lt i 32 then Some (slice_index_or (machine_of self.now).cells i (pos 0)) else None) }
     {
-        if i < 32 {
-            Some(self.cells[i as usize])
-        } else {
-            None
-        }
+        self.cells.get(i as usize).copied()
     }
 
     // The thread that holds the lock.

@@ -1,6 +1,6 @@
 // The machine: load, step, answer.
 ghost use Rattle.std.specs.Prelude.{◌≡◌, ◌<◌};
-ghost use Rattle.model.specs.Machine.{step as stepping, answer as answering};
+ghost use Rattle.model.specs.Machine.{step as stepping, answer as answering, is_raised, reply_value};
 ghost use Rattle.model.specs.Runs.{after};
 ghost use Rattle.model.specs.Files.{load_file};
 ghost use Rattle.machine.specs.Views.{machine_of, said};
@@ -9,7 +9,7 @@ ghost use Rattle.machine.specs.Machines.{load_seen, program, holds_now, replied}
 use crate::code::{fetch, raised_target};
 use crate::states::State;
 use applet::Applet;
-use model::{Outcome, Refusal};
+use model::{Outcome, Refusal, Reply};
 
 // A machine runs an applet out of the caller's file.
 #[derive(Drop)]
@@ -44,18 +44,19 @@ impl<'a> Machine<'a> {
 
     // The host's answer to the call that a thread handed out: it goes on behind its HOST, or at its
     // target if the answer is raised. What is refused changes nothing.
-    pub fn answer(&mut self, thread: u8, raised: bool, value: i32) -> Result<(), Refusal>
-        ensures value { result ≡ replied (answering (program self.old) (holds_now self.old) thread raised value) }
-        ensures after { holds_now self.new ≡ after (holds_now self.old) (answering (program self.old) (holds_now self.old) thread raised value) }
+    pub fn answer(&mut self, thread: u8, reply: Reply) -> Result<(), Refusal>
+        ensures value { result ≡ replied (answering (program self.old) (holds_now self.old) thread (is_raised reply) (reply_value reply)) }
+        ensures after { holds_now self.new ≡ after (holds_now self.old) (answering (program self.old) (holds_now self.old) thread (is_raised reply) (reply_value reply)) }
         ensures program { program self.new ≡ program self.old }
     {
         let at = self.state.awaiting(thread)?;
-        let index = if raised {
-            raised_target(fetch(&self.applet, at)) as u32
-        } else {
-            at.index + 1
-        };
-        self.state.resume(thread, index, value);
+        match reply {
+            Reply::Normal(value) => self.state.resume(thread, at.index + 1, value),
+            Reply::Raised(value) => {
+                let target = raised_target(fetch(&self.applet, at));
+                self.state.resume(thread, u32::from(target), value);
+            }
+        }
         Ok(())
     }
 

@@ -5,12 +5,15 @@ ghost use Rattle.model.specs.Runs.{after};
 ghost use Rattle.machine.specs.Ranges.{OwnValid, TestValid, Valid};
 ghost use Rattle.machine.specs.Views.{machine_of, said, admitted, stored, Ready, Steps, ready_of, awaiting_of, resumed};
 
-use crate::threads::{Stand, Thread};
+use crate::frames::Stand;
+use crate::threads::Thread;
 use crate::turns::turn;
 use model::{Instr, Outcome, Own, Reason, Refusal, Test};
 
-// The first `count` threads are in use. There is no reference and no search in it: a step writes to
-// one thread in place.
+// The state in fixed memory, as the controller has no heap: the first `count` threads are in use, and
+// a step writes to one of them in place. A struct of threads with their count would be read as
+// `self.threads.all[t as usize]` all the same, and so would a handle of one thread, as a method that
+// lends it out of the array gets no proof: so `Steps` of state and thread is said of each step.
 #[derive(Drop)]
 pub struct State {
     pub threads: [Thread; 8],
@@ -27,15 +30,13 @@ pub struct State {
 fn copy(args: &mut [i32; 5], regs: [i32; 4])
     ensures { args.new ≡ regs ++ drop 4 args.old }
 {
-    args[0] = regs[0];
-    args[1] = regs[1];
-    args[2] = regs[2];
-    args[3] = regs[3];
+    args[..4].copy_from_slice(&regs);
 }
 
 impl State {
     fn run_own(&mut self, t: u8, i: Own) -> Outcome
-        requires { Steps self.old t × OwnValid i }
+        requires steps { Steps self.old t }
+        requires valid { OwnValid i }
         ensures value { result ≡ (local i (nth_thread (machine_of self.old) t) self.old.shared).says }
         ensures after { machine_of self.new ≡ after (machine_of self.old) (run_instr (Instr.Own i) (machine_of self.old) t (nth_thread (machine_of self.old) t)) }
     {
@@ -53,7 +54,7 @@ impl State {
         }
         self.holder = Some(t);
         let th = &mut self.threads[t as usize];
-        copy(&mut self.args, th.arguments());
+        copy(&mut self.args, th.top.arguments());
         th.next();
         Ok(Outcome::Moved)
     }
@@ -62,10 +63,7 @@ impl State {
     fn holds(&self, t: u8) -> bool
         ensures { result ≡ holds self.now.holder t }
     {
-        match self.holder {
-            Some(h) => h == t,
-            None => false,
-        }
+        self.holder == Some(t)
     }
 
     // UNLOCK frees the lock; a thread that does not hold it ends.
@@ -75,8 +73,7 @@ impl State {
         ensures after { machine_of self.new ≡ after (machine_of self.old) (unlock_step (holds self.old.holder t) (machine_of self.old) t (nth_thread (machine_of self.old) t)) }
     {
         if !self.holds(t) {
-            self.threads[t as usize].end();
-            return Outcome::Ended(Reason::NotHolder);
+            return self.threads[t as usize].finish(Reason::NotHolder);
         }
         self.holder = None;
         self.threads[t as usize].next();
@@ -85,7 +82,8 @@ impl State {
 
     // A test: on behind those that it passes over, or the machine stops.
     fn run_test(&mut self, t: u8, i: Test) -> Outcome
-        requires { Steps self.old t × TestValid i }
+        requires steps { Steps self.old t }
+        requires valid { TestValid i }
         ensures value { Ok result ≡ said (run_instr (Instr.Test i) (machine_of self.old) t (nth_thread (machine_of self.old) t)) }
         ensures after { machine_of self.new ≡ after (machine_of self.old) (run_instr (Instr.Test i) (machine_of self.old) t (nth_thread (machine_of self.old) t)) }
     {
@@ -103,7 +101,8 @@ impl State {
 
     // One instruction of thread t.
     pub(crate) fn execute(&mut self, t: u8, i: Instr) -> Result<Outcome, Refusal>
-        requires { Steps self.old t × Valid i }
+        requires steps { Steps self.old t }
+        requires valid { Valid i }
         ensures value { result ≡ said (run_instr i (machine_of self.old) t (nth_thread (machine_of self.old) t)) }
         ensures after { machine_of self.new ≡ after (machine_of self.old) (run_instr i (machine_of self.old) t (nth_thread (machine_of self.old) t)) }
     {
@@ -121,8 +120,7 @@ impl State {
         ensures value { result ≡ Outcome.Ended Reason.Finished }
         ensures after { machine_of self.new ≡ after (machine_of self.old) (run_instr (Instr.Own Own.End) (machine_of self.old) t (nth_thread (machine_of self.old) t)) }
     {
-        self.threads[t as usize].end();
-        Outcome::Ended(Reason::Finished)
+        self.threads[t as usize].finish(Reason::Finished)
     }
 
     // How many threads there are.
@@ -130,12 +128,7 @@ impl State {
         ensures value { result ≡ length (machine_of self.now).threads }
         ensures few { (result ≤ 8) × (result ≤ self.now.count) }
     {
-        let all = &self.threads[..];
-        if (self.count as usize) < all.len() {
-            self.count
-        } else {
-            8
-        }
+        self.count.min(8)
     }
 
     // Only a thread that there is, on a machine that has not stopped. Each step asks this: two
@@ -144,8 +137,7 @@ impl State {
         ensures value { result ≡ admitted (nat_lt t (length (machine_of self.now).threads)) self.now.halted (Ok tt) }
         ensures there { OnOk result ((t < 8) × (t < self.now.count)) }
     {
-        let all = &self.threads[..];
-        if t >= self.count || t as usize >= all.len() {
+        if t >= self.count || t as usize >= self.threads.len() {
             return Err(Refusal::NoThread);
         }
         if self.halted {
@@ -157,7 +149,7 @@ impl State {
     // Where a thread stands that can be stepped.
     pub(crate) fn ready(&self, t: u8) -> Result<Stand, Refusal>
         ensures value { result ≡ ready_of (machine_of self.now) t }
-        ensures there { IfOk result (λ s. Ready self.now t × (s.method ≡ (stored self.now t).top.method) × (s.index ≡ (stored self.now t).top.index)) }
+        ensures there { IfOk result (λ s. Ready self.now t × (s.index ≡ (stored self.now t).top.index)) }
     {
         self.admit(t)?;
         self.threads[t as usize].ready()

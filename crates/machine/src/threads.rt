@@ -1,57 +1,43 @@
-// Threads: their frames and registers.
-ghost use Rattle.std.specs.Prelude.{◌≡◌, ◌+◌, ◌<◌, min, List, length, take, ℤ, IfOk};
+// Threads: one instruction of the applet's own, and what a thread waits for.
+ghost use Rattle.std.specs.Prelude.{◌≡◌, ◌+◌, ◌<◌, List, take, ℤ, IfOk};
 ghost use Rattle.model.specs.declared.Status.TheVariants.{Ready as IsReady, Awaiting as IsAwaiting, Ended as IsEnded};
-ghost use Rattle.model.specs.Machine.{reg as reg_of, goto as going, write as writing, with_top, with_status, onward, enter as entered, local};
+ghost use Rattle.model.specs.Machine.{reg as reg_of, goto as going, write as writing, with_top, with_status, onward, local};
 ghost use Rattle.machine.specs.Ranges.{OwnValid};
-ghost use Rattle.machine.specs.Views.{waiting, thread_of, ready_by, awaiting_by, going_on};
+ghost use Rattle.machine.specs.Views.{waiting, thread_of, stand_of, ready_by, awaiting_by, going_on, Runs};
 
-use crate::numbers::{add, flag, sub};
+use crate::frames::{Callers, Frame, Stand, rest};
 use model::{Outcome, Own, Reason, Refusal, Status};
 
-// A call of a method: where it stands, and its registers.
-#[derive(Clone, Copy)]
-pub struct Frame {
-    pub method: u8,
-    pub index: u32,
-    pub regs: [i32; 8],
-}
-
-// A thread: the topmost frame, and those that it was called from, the first `depth` of `callers`, the
-// oldest first.
+// A thread: the topmost frame, and those that it was called from.
 #[derive(Clone, Copy)]
 pub struct Thread {
     pub status: Status,
-    pub depth: u8,
     pub top: Frame,
-    pub callers: [Frame; 15],
+    pub callers: Callers,
 }
 
-// The index of a frame that waits, which is at most 65,535.
-fn rest(index: u32) -> u32
-    ensures { result ≡ waiting index }
-{
-    if index < 65536 { index } else { 65535 }
-}
-
-// The index behind it.
-fn behind(index: u32) -> u32
-    ensures { result ≡ waiting index + 1 }
-{
-    rest(index) + 1
-}
-
-// Where a thread stands.
-#[derive(Clone, Copy)]
-pub struct Stand {
-    pub method: u8,
-    pub index: u32,
-}
-
+// A thread that runs is ready and stands below 65,536: the record `Runs` says so to each move. With
+// the index in the status, as `Ready(u32)` beside `Awaiting(u16)`, no move would ask it, but steps are a
+// tenth slower, and those of eight threads and of host calls miss the goal of bench/steps.rs.
 impl Thread {
+    // Where it stands.
+    pub(crate) fn at(&self) -> Stand
+        ensures { result ≡ stand_of (thread_of self.now) }
+    {
+        let index = match self.status {
+            Status::Awaiting => rest(self.top.index),
+            Status::Ready | Status::Ended => self.top.index,
+        };
+        Stand {
+            method: self.top.method,
+            index,
+        }
+    }
+
     // Where it stands, if it can be stepped.
     pub(crate) fn ready(&self) -> Result<Stand, Refusal>
         ensures value { result ≡ ready_by (thread_of self.now) self.now.status }
-        ensures ready { IfOk result (λ s. (self.now.status ≡ IsReady) × (s.method ≡ self.now.top.method) × (s.index ≡ self.now.top.index)) }
+        ensures ready { IfOk result (λ s. (self.now.status ≡ IsReady) × (s.index ≡ self.now.top.index)) }
     {
         match self.status {
             Status::Ready => Ok(Stand {
@@ -69,12 +55,8 @@ impl Thread {
         ensures low { IfOk result (λ s. s.index < 65536) }
     {
         match self.status {
-            Status::Awaiting => Ok(Stand {
-                method: self.top.method,
-                index: rest(self.top.index),
-            }),
-            Status::Ready => Err(Refusal::NotAwaiting),
-            Status::Ended => Err(Refusal::NotAwaiting),
+            Status::Awaiting => Ok(self.at()),
+            Status::Ready | Status::Ended => Err(Refusal::NotAwaiting),
         }
     }
 
@@ -87,27 +69,8 @@ impl Thread {
         self.top.regs[0] = v;
     }
 
-    // How many frames lie below the topmost one.
-    pub(crate) fn below(&self) -> u8
-        ensures count { result ≡ length (thread_of self.now).callers }
-        ensures stored { result ≡ min self.now.depth 15 }
-    {
-        if self.depth < 15 { self.depth } else { 15 }
-    }
-
-    // The index of the topmost frame.
-    pub(crate) fn index(&self) -> u32
-        ensures { result ≡ (thread_of self.now).top.index }
-    {
-        match self.status {
-            Status::Awaiting => rest(self.top.index),
-            Status::Ready => self.top.index,
-            Status::Ended => self.top.index,
-        }
-    }
-
     // Register x.
-    pub(crate) fn reg(&self, x: u8) -> i32
+    fn reg(&self, x: u8) -> i32
         requires { x < 8 }
         ensures { result ≡ reg_of (thread_of self.now).top x }
     {
@@ -115,158 +78,122 @@ impl Thread {
     }
 
     // Sets a register, and goes on.
-    pub(crate) fn put(&mut self, x: u8, v: i32)
-        requires { (x < 8) × (self.old.status ≡ IsReady) × (self.old.top.index < 65536) }
+    fn put(&mut self, x: u8, v: i32)
+        requires register { x < 8 }
+        requires runs { Runs self.old }
         ensures { thread_of self.new ≡ with_top (thread_of self.old) (writing (thread_of self.old).top x v) }
     {
         self.top.regs[x as usize] = v;
         self.top.index += 1;
     }
 
-    pub(crate) fn goto(&mut self, to: u32)
-        requires { self.old.status ≡ IsReady }
+    fn goto(&mut self, to: u16)
+        requires { Runs self.old }
         ensures { thread_of self.new ≡ with_top (thread_of self.old) (going (thread_of self.old).top to) }
     {
-        self.top.index = to;
+        self.top.index = u32::from(to);
+    }
+
+    // Goes on behind its instruction and n more.
+    pub(crate) fn skip(&mut self, n: u16)
+        requires { Runs self.old }
+        ensures { thread_of self.new ≡ with_top (thread_of self.old) (going (thread_of self.old).top ((thread_of self.old).top.index + 1 + n)) }
+    {
+        self.top.index += 1 + u32::from(n);
     }
 
     // Goes on behind its instruction.
     pub(crate) fn next(&mut self)
-        requires { (self.old.status ≡ IsReady) × (self.old.top.index < 65536) }
+        requires { Runs self.old }
         ensures { thread_of self.new ≡ onward (thread_of self.old) }
     {
         self.top.index += 1;
     }
 
-    // Goes on behind its instruction and n more.
-    pub(crate) fn skip(&mut self, n: u16)
-        requires { (self.old.status ≡ IsReady) × (self.old.top.index < 65536) }
-        ensures { thread_of self.new ≡ with_top (thread_of self.old) (going (thread_of self.old).top ((thread_of self.old).top.index + 1 + n)) }
-    {
-        self.top.index = self.top.index + 1 + n as u32;
-    }
-
-    pub(crate) fn end(&mut self)
+    // The thread ends with a reason.
+    pub(crate) fn finish(&mut self, reason: Reason) -> Outcome
         requires { self.old.status ≡ IsReady }
-        ensures { thread_of self.new ≡ with_status (thread_of self.old) IsEnded }
+        ensures says { result ≡ Outcome.Ended reason }
+        ensures after { thread_of self.new ≡ with_status (thread_of self.old) IsEnded }
     {
         self.status = Status::Ended;
+        Outcome::Ended(reason)
     }
 
-    // Awaits the answer to a call.
-    fn wait(&mut self)
-        requires { (self.old.status ≡ IsReady) × (self.old.top.index < 65536) }
-        ensures { thread_of self.new ≡ with_status (thread_of self.old) IsAwaiting }
+    // HOST hands out a call, whose answer the thread awaits.
+    fn wait(&mut self, call: u8) -> Outcome
+        requires { Runs self.old }
+        ensures says { result ≡ Outcome.Called call (take 4 self.old.top.regs) }
+        ensures after { thread_of self.new ≡ with_status (thread_of self.old) IsAwaiting }
     {
         self.status = Status::Awaiting;
+        Outcome::Called(call, self.top.arguments())
     }
 
-    // r0 to r3.
-    pub(crate) fn arguments(&self) -> [i32; 4]
-        ensures { result ≡ take 4 self.now.top.regs }
-    {
-        [
-            self.top.regs[0],
-            self.top.regs[1],
-            self.top.regs[2],
-            self.top.regs[3],
-        ]
-    }
-
-    // A frame for method n, where there is room for one: r0 to r3 copied, r4 to r7 zero.
-    fn enter(&mut self, n: u8)
-        requires { (self.old.depth < 15) × (self.old.status ≡ IsReady) × (self.old.top.index < 65536) }
-        ensures { thread_of self.new ≡ entered (thread_of self.old) n }
-    {
-        self.callers[self.depth as usize] = self.top;
-        self.depth += 1;
-        self.top.method = n;
-        self.top.index = 0;
-        self.top.regs[4] = 0;
-        self.top.regs[5] = 0;
-        self.top.regs[6] = 0;
-        self.top.regs[7] = 0;
-    }
-
-    // CALL: the thread ends where there is no room for another frame.
+    // CALL: a frame for method n, r0 to r3 copied, r4 to r7 zero. The thread ends where there is no
+    // room for another frame.
     fn call(&mut self, n: u8) -> Outcome
-        requires { (self.old.status ≡ IsReady) × (self.old.top.index < 65536) }
+        requires { Runs self.old }
         ensures says { (g : List ℤ) → result ≡ (local (Own.Call n) (thread_of self.old) g).says }
         ensures after { (g : List ℤ) → thread_of self.new ≡ (local (Own.Call n) (thread_of self.old) g).after }
         ensures shared { (g : List ℤ) → g ≡ (local (Own.Call n) (thread_of self.old) g).shared }
     {
-        if self.depth >= 15 {
-            self.end();
-            return Outcome::Ended(Reason::TooDeep);
+        if !self.callers.push(self.top) {
+            return self.finish(Reason::TooDeep);
         }
-        self.enter(n);
+        self.top = self.top.called(n);
         Outcome::Moved
     }
 
-    // Back to the caller, behind its CALL, with r0.
-    fn leave(&mut self)
-        requires { (0 < self.old.depth) × (self.old.status ≡ IsReady) }
-        ensures { (g : List ℤ) → thread_of self.new ≡ (local Own.Ret (thread_of self.old) g).after }
-    {
-        let v = self.reg(0);
-        self.depth = self.below() - 1;
-        self.top = self.callers[self.depth as usize];
-        self.top.regs[0] = v;
-        self.top.index = behind(self.top.index);
-    }
-
-    // RET: the thread ends in its first frame.
+    // RET: back to the caller, behind its CALL, with r0. The thread ends in its first frame.
     fn ret(&mut self) -> Outcome
-        requires { self.old.status ≡ IsReady }
+        requires { Runs self.old }
         ensures says { (g : List ℤ) → result ≡ (local Own.Ret (thread_of self.old) g).says }
         ensures after { (g : List ℤ) → thread_of self.new ≡ (local Own.Ret (thread_of self.old) g).after }
         ensures shared { (g : List ℤ) → g ≡ (local Own.Ret (thread_of self.old) g).shared }
     {
-        if self.depth == 0 {
-            self.end();
-            return Outcome::Ended(Reason::Finished);
-        }
-        self.leave();
+        let Some(caller) = self.callers.pop() else {
+            return self.finish(Reason::Finished);
+        };
+        let v = self.top.regs[0];
+        self.top = caller;
+        self.top.regs[0] = v;
+        self.top.index = rest(caller.index) + 1;
         Outcome::Moved
     }
 
     // An instruction of the applet's own.
     pub(crate) fn run(&mut self, i: Own, shared: &mut [i32; 64]) -> Outcome
-        requires { OwnValid i × (self.old.status ≡ IsReady) × (self.old.top.index < 65536) }
+        requires valid { OwnValid i }
+        requires runs { Runs self.old }
         ensures says { result ≡ (local i (thread_of self.old) shared.old).says }
         ensures after { thread_of self.new ≡ (local i (thread_of self.old) shared.old).after }
         ensures shared { shared.new ≡ (local i (thread_of self.old) shared.old).shared }
     {
         match i {
-            Own::Set(x, y) => self.put(x, y as i32),
+            Own::Set(x, y) => self.put(x, i32::from(y)),
             Own::Mov(x, y) => self.put(x, self.reg(y)),
-            Own::Add(x, y) => self.put(x, add(self.reg(x), self.reg(y))),
-            Own::Sub(x, y) => self.put(x, sub(self.reg(x), self.reg(y))),
-            Own::Lt(x, y) => self.put(x, flag(self.reg(x) < self.reg(y))),
-            Own::Eq(x, y) => self.put(x, flag(self.reg(x) == self.reg(y))),
+            Own::Add(x, y) => self.put(x, self.reg(x).wrapping_add(self.reg(y))),
+            Own::Sub(x, y) => self.put(x, self.reg(x).wrapping_sub(self.reg(y))),
+            Own::Lt(x, y) => self.put(x, i32::from(self.reg(x) < self.reg(y))),
+            Own::Eq(x, y) => self.put(x, i32::from(self.reg(x) == self.reg(y))),
             Own::Get(x, y) => self.put(x, shared[y as usize]),
             Own::Put(x, y) => {
                 shared[y as usize] = self.reg(x);
                 self.next();
             }
-            Own::Jump(n) => self.goto(n as u32),
+            Own::Jump(n) => self.goto(n),
             Own::Brz(x, n) => {
                 if self.reg(x) == 0 {
-                    self.goto(n as u32);
+                    self.goto(n);
                 } else {
                     self.next();
                 }
             }
             Own::Call(n) => return self.call(n),
             Own::Ret => return self.ret(),
-            Own::Host(k, _) => {
-                self.wait();
-                return Outcome::Called(k, self.arguments());
-            }
-            Own::End => {
-                self.end();
-                return Outcome::Ended(Reason::Finished);
-            }
+            Own::Host(k, _) => return self.wait(k),
+            Own::End => return self.finish(Reason::Finished),
         }
         Outcome::Moved
     }

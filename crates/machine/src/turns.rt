@@ -4,7 +4,6 @@ ghost use Rattle.model.specs.Policy.{turn as turning};
 ghost use Rattle.machine.specs.Ranges.{TestValid};
 ghost use Rattle.machine.specs.Views.{passes, cells_after, scratch_after};
 
-use crate::numbers::operate;
 use model::Test;
 
 // How many of the instructions behind it are passed over, or none where the machine stops.
@@ -27,12 +26,12 @@ pub(crate) fn turn(
             }
         }
         Test::Viol => return None,
-        Test::Mset(x, y) => scratch[x as usize] = y as i32,
+        Test::Mset(x, y) => scratch[x as usize] = i32::from(y),
         Test::Mcell(x, y) => scratch[x as usize] = cells[y as usize],
         Test::Marg(x, y) => scratch[x as usize] = args[y as usize],
         Test::Store(x, y) => cells[y as usize] = scratch[x as usize],
         Test::Op(x, o) => {
-            scratch[x as usize] = operate(o, scratch[x as usize], scratch[x as usize + 1]);
+            scratch[x as usize] = o.apply(scratch[x as usize], scratch[x as usize + 1]);
         }
     }
     Some(0)

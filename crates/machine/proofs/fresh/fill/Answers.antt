@@ -1,6 +1,5 @@
-use Rattle.std.proofs.Common.{◌≡◌, ℕ, List, ◌++◌, length, take, drop, ℤ, ap, ◌∙◌, arith, length-set, w32, SFits, rules}
+use Rattle.std.proofs.Common.{◌∙◌, arith, length-set, w32, SFits, rules}
 use Rattle.std.proofs.lemmas.Int.{to_z-of_z}
-use Rattle.std.proofs.lemmas.List.{take_all}
 use Rattle.applet.specs.Applets.{meant}
 use Rattle.machine.proofs.Started.{filled}
 use Rattle.machine.proofs.fresh.fill.Goals as goal
@@ -12,9 +11,3 @@ loop-i-preserved c =
       simp length-set c.loop-i.invariant.0,
       filled (meant c.args.applet.now).starts c.args.cells.now c.loop-i.cells c.loop-i.i _ c.loop-i.invariant.1 e (omega arith) (omega arith),
     )
-
-pub returns : goal.returns
-returns c =
-    let s = (meant c.args.applet.now).starts in
-    let i : c.loop-i.i ≡ length s = omega arith in
-    c.loop-i.invariant.1 ∙ ap (λ (k : ℕ). take k s ++ drop k c.args.cells.now) i ∙ ap (λ (x : List ℤ). x ++ drop (length s) c.args.cells.now) (take_all (length s) s (omega arith))

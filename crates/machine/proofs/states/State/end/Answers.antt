@@ -9,4 +9,4 @@ returns c =
     let m = c.args.self.now in
     let t = c.args.t in
     let r : t < length m.threads = search rules in
-    record { value = refl; after = ran_own m t c.requires.there r _ _ (λ u. local Own.End u m.shared) c.end.ensures refl }
+    record { value = c.finish.ensures.says; after = ran_own m t c.requires.there r _ _ (λ u. local Own.End u m.shared) c.finish.ensures.after refl }

@@ -10,6 +10,6 @@ returns c =
     let t = c.args.t in
     let r : t < length m.threads = search rules in
     record {
-      value = c.run.ensures.says ∙ sym (ap (λ (u : model.Thread). (local c.args.i u m.shared).says) (at m t c.requires.0.there r));
-      after = ran_own m t c.requires.0.there r _ _ (λ u. local c.args.i u m.shared) c.run.ensures.after c.run.ensures.shared;
+      value = c.run.ensures.says ∙ sym (ap (λ (u : model.Thread). (local c.args.i u m.shared).says) (at m t c.requires.steps.there r));
+      after = ran_own m t c.requires.steps.there r _ _ (λ u. local c.args.i u m.shared) c.run.ensures.after c.run.ensures.shared;
     }
