@@ -2,10 +2,10 @@
 pub mod Opcodes
 -- woven indices
 pub mod Starts
--- sites in bytes
-pub mod SiteBytes
 -- bytes written one after the other
 pub mod Bytes
+-- sites in bytes
+pub mod SiteBytes
 -- the woven code of a method
 pub mod WovenMethod
 -- the passes over an applet

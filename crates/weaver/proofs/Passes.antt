@@ -1,25 +1,30 @@
 -- The passes over an applet that was read.
-use Rattle.std.proofs.Common.{◌≡◌, ℕ, zero, suc, ◌+◌, ◌*◌, ◌<◌, ◌≤◌, true, false, eqb, List, [], ◌∷◌, length, get_or, drop, ℤ, Some, None, Ok, Err, sym, refl, ap, ◌∙◌, subst, arith, length-append, length-drop}
+use Rattle.std.proofs.Common.{◌≡◌, ℕ, zero, suc, ◌+◌, ◌*◌, ◌/◌, ◌<◌, ◌≤◌, Bool, true, false, cond, not, eqb, List, [], ◌∷◌, map, length, get_or, drop, ℤ, Some, None, Ok, Err, Option, position, sym, refl, ap, ◌∙◌, subst, arith, length-append, length-drop}
 use lib.ListN.{length-map}
-use Rattle.std.specs.List.{AllByRecursion}
+use Rattle.std.specs.Simd.{first_chunks}
+use Rattle.std.specs.List.{AllByRecursion, position_from}
+use Rattle.std.proofs.lemmas.Iterator.Adapters.{position_from-zero}
 use Rattle.std.proofs.lemmas.List.{at_drop_all, drop_more, get_or-map}
-use Rattle.std.proofs.lemmas.Bool.{true≢false, false≢true, ne_eqb}
+use Rattle.std.proofs.lemmas.Bool.{ne_eqb}
 use Rattle.model.specs.declared.Instr.{Instr}
 use Rattle.model.specs.declared.Own.{Own}
 use Rattle.model.specs.declared.Refusal.{Refusal}
 use Rattle.model.specs.declared.Refusal.TheVariants.{NotPlain}
 use Rattle.model.specs.Machine as machine
 use Rattle.model.specs.Weave.{Plain}
+use Rattle.model.specs.Words.{quads, decode}
 use Rattle.model.specs.Fields.{Within, Read, need, ◌>>=◌, ◌>>◌, contents_at}
 use Rattle.model.specs.Reading.{Valid, write_code, write_codes, write_applet, method_place, instr_place, cells_place}
 use Rattle.model.specs.Files.{plain_code, plain_codes, plain_of}
 use Rattle.model.proofs.Places.{method_at, length_field}
-use Rattle.applet.specs.Applets.{code_in, nth, laid_out}
-use Rattle.applet.specs.Stages.{Found}
-use Rattle.weaver.specs.Pieces.{instrs}
-use Rattle.weaver.specs.Weaves.{is_own, forget, MethodAt}
-use Rattle.weaver.proofs.Starts.{length_instrs}
-use Rattle.weaver.proofs.SiteBytes.{write_length}
+use Rattle.applet.specs.declared.reader.Applet.{Applet}
+use Rattle.applet.specs.Applets.{code_in, nth, meant, places_of, or_end, Placed}
+use Rattle.weaver.specs.declared.methods.Method.{Method}
+use Rattle.weaver.specs.declared.methods.Methods.{Methods}
+use Rattle.weaver.specs.Steps.{GivesMethod}
+use Rattle.weaver.specs.Pieces.{instr_in, instrs}
+use Rattle.weaver.specs.Weaves.{is_own, forget, Sound, MethodAt}
+use Rattle.weaver.proofs.Bytes.{write_length}
 
 -- ---- a method
 
@@ -28,20 +33,9 @@ all_at P [] i d h l = absurd (omega arith)
 all_at P (x ∷ xs) zero d h l = h.0
 all_at P (x ∷ xs) (suc i) d h l = all_at P xs i d h.1 (omega arith)
 
-pub some_same : {X : Type 0} {x y : X} → Some x ≡ Some y → x ≡ y
-some_same h = cc
-
-none_some : {X Y : Type 0} {x : X} → None ≡ Some x → Y
-none_some h = absurd (let z : ◌≡◌ {A = ℕ} 0 1 = cc in omega arith)
-
-nth_none : {X : Type 0} (xs : List X) (i : ℕ) → nth xs i ≡ None → length xs ≤ i
-nth_none [] i e = omega arith
-nth_none (x ∷ xs) zero e = none_some (sym e)
-nth_none (x ∷ xs) (suc i) e = let h = nth_none xs i e in omega arith
-
 nth_some : {X : Type 0} (xs : List X) (i : ℕ) (d p : X) → nth xs i ≡ Some p → (i < length xs) × (get_or xs i d ≡ p)
-nth_some [] i d p e = none_some e
-nth_some (x ∷ xs) zero d p e = (omega arith, some_same e)
+nth_some [] i d p e = cc
+nth_some (x ∷ xs) zero d p e = (omega arith, cc)
 nth_some (x ∷ xs) (suc i) d p e = let h = nth_some xs i d p e in let l = h.0 in (omega arith, h.1)
 
 -- the field of a method lies in the file
@@ -55,27 +49,50 @@ inside_file a m h =
     let d = length-drop (method_place a m) (write_applet a) in
     omega arith
 
-module _ (f : List ℕ) (l : Found) (m : ℕ) where
-  abbrev a : machine.Applet
-  a = laid_out f l
+-- an applet that was read is within its limits
+pub read_sound : (a : Applet) → Placed a → Valid (meant a) → length (write_applet (meant a)) ≤ 65535 → Sound a
+read_sound a p v short =
+    record {
+      placed = p;
+      methods = v.methods.1;
+      threads = v.threads.1;
+      sizes = λ m h. (all_at (λ c. Within 1 4096 (length c)) (meant a).methods m [] v.sizes h).1;
+      short = short;
+    }
 
-  pub no_method : nth l.places m ≡ None → length a.methods ≤ m
-  no_method e = let h = nth_none l.places m e in let k = length-map l.places (code_in f (length l.places)) in omega arith
+-- a method's instructions, by the four bytes of each
+chunked : (n : ℕ) (f : List ℕ) → instrs n (first_chunks 4 (length f / 4) f) ≡ map (λ q. or_end (decode n q)) (quads f)
+chunked n [] = refl
+chunked n (a ∷ []) = refl
+chunked n (a ∷ b ∷ []) = refl
+chunked n (a ∷ b ∷ c ∷ []) = refl
+chunked n (a ∷ b ∷ c ∷ d ∷ r) =
+    let e : length (a ∷ b ∷ c ∷ d ∷ r) / 4 ≡ suc (length r / 4) = omega arith in
+    ap (λ k. instrs n (first_chunks 4 k (a ∷ b ∷ c ∷ d ∷ r))) e ∙ ap {B = List Instr} (λ is. instr_in n (a ∷ b ∷ c ∷ d ∷ []) ∷ is) (chunked n r)
 
-  pub method_found : Valid a → length (write_applet a) ≤ 65535 → ((k : ℕ) → k < length a.methods → nth l.places k ≡ Some (method_place a k)) →
-      (p : ℕ) (code : List ℕ) → nth l.places m ≡ Some p → code ≡ contents_at f p → MethodAt a m p code
-  method_found v short placed p code e k =
-      let n = length l.places in
-      let h = nth_some l.places m 0 p e in
+module _ (a : Applet) (m : ℕ) where
+  abbrev ps : List ℕ
+  ps = places_of a
+
+  count : length (meant a).methods ≡ length ps
+  count = length-map ps (code_in a.file.now (length ps))
+
+  pub method_found : Sound a → (p : ℕ) (bytes : List ℕ) (code : List (List ℕ)) → nth ps m ≡ Some p → bytes ≡ contents_at a.file.now p → code ≡ first_chunks 4 (length bytes / 4) bytes →
+      MethodAt (meant a) m p code
+  method_found s p bytes code e k q =
+      let n = length ps in
+      let h = nth_some ps m 0 p e in
       let i = h.0 in
-      let w = length-map l.places (code_in f n) in
-      let there : m < length a.methods = omega arith in
-      let at : p ≡ method_place a m = some_same (sym e ∙ placed m there) in
-      let c : get_or a.methods m [] ≡ instrs n code = get_or-map (code_in f n) l.places m 0 [] i ∙ ap (code_in f n) h.1 ∙ ap (instrs n) (sym k) in
-      let s = all_at (λ c. Within 1 4096 (length c)) a.methods m [] v.sizes there in
-      let b = s.1 in
-      let lc = ap length c ∙ length_instrs n code in
-      let o = inside_file a m there in
+      let w = count in
+      let there : m < length (meant a).methods = omega arith in
+      let z = s.placed m there in
+      let at : p ≡ method_place (meant a) m = cc in
+      let c : get_or (meant a).methods m [] ≡ instrs n code =
+      get_or-map (code_in a.file.now n) ps m 0 [] i ∙ ap (code_in a.file.now n) h.1 ∙ ap (λ b. map (λ q. or_end (decode n q)) (quads b)) (sym k) ∙ sym (chunked n bytes) ∙ ap (instrs n) (sym q) in
+      let b = s.sizes m there in
+      let lc = ap length c ∙ length-map code (instr_in n) in
+      let o = inside_file (meant a) m there in
+      let short = s.short in
       record {
         there = there;
         placed = at;
@@ -84,40 +101,46 @@ module _ (f : List ℕ) (l : Found) (m : ℕ) where
         inside = omega arith;
       }
 
+-- the next method of an applet a
+pub record Given (a : machine.Applet) (s : Methods) (x : Method) (t : Methods) : Type 0 where
+  pub method : MethodAt a s.next x.place x.code.now
+  pub next : t.next ≡ s.next + 1
+
+pub given : (a : Applet) (s : Methods) (x : Method) (t : Methods) → s.applet.now ≡ a → GivesMethod s (Some x) t → Given (meant a) s x t
+given a s x t e h = record { method = subst (λ a. MethodAt (meant a) s.next x.place x.code.now) e h.method.0; next = h.method.1 }
+
+pub given_all : (a : Applet) (s t : Methods) → s.applet.now ≡ a → GivesMethod s None t → length (meant a).methods ≤ s.next
+given_all a s t e h = subst (λ a. length (meant a).methods ≤ s.next) e h.method
+
 -- ---- plain code
 
-module _ (at : ℕ → ℕ) (cs : List Instr) (i : ℕ) (h : i < length cs) where
-  step : (c : Instr) (ds : List Instr) → is_own c ≡ true → forget (plain_code at i (c ∷ ds)) ≡ forget (plain_code at (i + 1) ds)
+module _ (at : ℕ → ℕ) where
+  -- a refusal of the instruction at an index
+  abbrev pub refusal_at : Option ℕ → Read (Unit {0})
+  refusal_at None = Ok tt
+  refusal_at (Some i) = Err (NotPlain (at i))
+
+  step : (i : ℕ) (c : Instr) (cs : List Instr) → forget (plain_code at i (c ∷ cs)) ≡ cond (not (is_own c)) (Err (NotPlain (at i))) (forget (plain_code at (i + 1) cs))
   unfolding ◌>>=◌
-  step (Instr.Own c) ds t = by (plain_code at (i + 1) ds)
+  step i (Instr.Own c) cs = by (plain_code at (i + 1) cs)
     where
       by : (r : Read (List Own)) → forget (r >>= (λ ds. Ok (c ∷ ds))) ≡ forget r
       by (Ok x) = refl
       by (Err x) = refl
-  step (Instr.Lock k) ds t = absurd (false≢true t)
-  step Instr.Unlock ds t = absurd (false≢true t)
-  step (Instr.Test c) ds t = absurd (false≢true t)
+  step i (Instr.Lock k) cs = refl
+  step i Instr.Unlock cs = refl
+  step i (Instr.Test c) cs = refl
 
-  halt : (c : Instr) (ds : List Instr) → is_own c ≡ false → forget (plain_code at i (c ∷ ds)) ≡ Err (NotPlain (at i))
-  halt (Instr.Own c) ds t = absurd (true≢false t)
-  halt (Instr.Lock k) ds t = refl
-  halt Instr.Unlock ds t = refl
-  halt (Instr.Test c) ds t = refl
+  branch : (t : Bool) (i : ℕ) (o : Option ℕ) (r : Read (Unit {0})) → refusal_at o ≡ r → refusal_at (cond t (Some i) o) ≡ cond t (Err (NotPlain (at i))) r
+  branch true i o r e = refl
+  branch false i o r e = e
 
-  pub plain_more : (c : Instr) → c ≡ get_or cs i (Instr.Own Own.End) → is_own c ≡ true → forget (plain_code at i (drop i cs)) ≡ forget (plain_code at 0 cs) →
-      forget (plain_code at (i + 1) (drop (i + 1) cs)) ≡ forget (plain_code at 0 cs)
-  plain_more c e t s =
-      sym (step (get_or cs i (Instr.Own Own.End)) (drop (i + 1) cs) (subst (λ c. is_own c ≡ true) e t)) ∙
-      sym (ap (λ ds. forget (plain_code at i ds)) (drop_more cs i (Instr.Own Own.End) h)) ∙ s
+  from : (n i : ℕ) (code : List (List ℕ)) → refusal_at (position_from (λ b. not (is_own (instr_in n b))) i code) ≡ forget (plain_code at i (instrs n code))
+  from n i [] = refl
+  from n i (b ∷ bs) = branch (not (is_own (instr_in n b))) i _ _ (from n (i + 1) bs) ∙ sym (step i (instr_in n b) (instrs n bs))
 
-  pub plain_stops : (c : Instr) → c ≡ get_or cs i (Instr.Own Own.End) → is_own c ≡ false → forget (plain_code at i (drop i cs)) ≡ forget (plain_code at 0 cs) →
-      Err (NotPlain (at i)) ≡ forget (plain_code at 0 cs)
-  plain_stops c e t s =
-      sym (halt (get_or cs i (Instr.Own Own.End)) (drop (i + 1) cs) (subst (λ c. is_own c ≡ false) e t)) ∙
-      sym (ap (λ ds. forget (plain_code at i ds)) (drop_more cs i (Instr.Own Own.End) h)) ∙ s
-
-pub plain_ends : (at : ℕ → ℕ) (cs : List Instr) (i : ℕ) → length cs ≤ i → forget (plain_code at i (drop i cs)) ≡ forget (plain_code at 0 cs) → Ok tt ≡ forget (plain_code at 0 cs)
-plain_ends at cs i h s = sym (at_drop_all (λ ds. forget (plain_code at i ds)) cs i h) ∙ s
+  pub plain_by : (n : ℕ) (code : List (List ℕ)) (o : Option ℕ) → o ≡ position (λ b. not (is_own (instr_in n b))) code → refusal_at o ≡ forget (plain_code at 0 (instrs n code))
+  plain_by n code o e = ap refusal_at (e ∙ position_from-zero (λ b. not (is_own (instr_in n b))) code) ∙ from n 0 code
 
 -- ---- plain methods
 
@@ -129,17 +152,17 @@ module _ (at : ℕ → ℕ → ℕ) (cs : List (List Instr)) (m : ℕ) (h : m < 
   unfolding ◌>>=◌
   codes_step (Ok d) (Ok ds) e = refl
   codes_step (Ok d) (Err x) e = refl
-  codes_step (Err x) s e = absurd (let z : ◌≡◌ {A = ℕ} 0 1 = cc in omega arith)
+  codes_step (Err x) s e = cc
 
   codes_halt : (r : Read (List Own)) (s : Read (List (List Own))) (x : Refusal) → forget r ≡ Err x → forget (r >>= (λ d. s >>= (λ ds. Ok (d ∷ ds)))) ≡ Err x
   unfolding ◌>>=◌
-  codes_halt (Ok d) s x e = absurd (let z : ◌≡◌ {A = ℕ} 0 1 = cc in omega arith)
+  codes_halt (Ok d) s x e = cc
   codes_halt (Err y) s x e = e
 
   pub codes_more : forget (plain_code (at m) 0 here) ≡ Ok tt → forget (plain_codes at m (drop m cs)) ≡ forget (plain_codes at 0 cs) →
-      forget (plain_codes at (m + 1) (drop (m + 1) cs)) ≡ forget (plain_codes at 0 cs)
-  codes_more e s =
-      sym (codes_step (plain_code (at m) 0 here) (plain_codes at (m + 1) (drop (m + 1) cs)) e) ∙ sym (ap (λ ds. forget (plain_codes at m ds)) (drop_more cs m [] h)) ∙ s
+      (k : ℕ) → k ≡ m + 1 → forget (plain_codes at k (drop k cs)) ≡ forget (plain_codes at 0 cs)
+  codes_more e s k n =
+      ap (λ k. forget (plain_codes at k (drop k cs))) n ∙ sym (codes_step (plain_code (at m) 0 here) (plain_codes at (m + 1) (drop (m + 1) cs)) e) ∙ sym (ap (λ ds. forget (plain_codes at m ds)) (drop_more cs m [] h)) ∙ s
 
   pub codes_stop : (x : Refusal) → forget (plain_code (at m) 0 here) ≡ Err x → forget (plain_codes at m (drop m cs)) ≡ forget (plain_codes at 0 cs) →
       Err x ≡ forget (plain_codes at 0 cs)

@@ -1,5 +1,5 @@
 -- The woven file of an applet that was read.
-use Rattle.std.proofs.Common.{◌≡◌, ℕ, ◌+◌, ◌*◌, ◌<◌, ◌≤◌, leb, List, [], ◌∷◌, ◌++◌, map, length, get_or, take, drop, Ok, Err, sym, refl, ap, ◌∙◌, subst, ap₂, append_assoc, arith, length-append, take-append-drop}
+use Rattle.std.proofs.Common.{◌≡◌, ℕ, ◌+◌, ◌*◌, ◌<◌, ◌≤◌, leb, List, [], ◌∷◌, ◌++◌, map, length, get_or, take, drop, Ok, Err, sym, refl, ap, ◌∙◌, ap₂, append_assoc, arith, length-append, take-append-drop}
 use lib.ListN.{length-map}
 use Rattle.std.specs.List.{AllByRecursion}
 use Rattle.std.proofs.lemmas.List.{at_drop_more, at_drop_all, take_more, take_all, get_or-map, append-nil}
@@ -20,13 +20,12 @@ use Rattle.model.specs.Files.{plain_code, plain_codes, plain_of, sized}
 use Rattle.model.specs.Areas.{over_area}
 use Rattle.model.proofs.Accepted.{bound, needed, err_ok}
 use Rattle.model.proofs.Places.{length_field, write_codes_append}
-use Rattle.policy.specs.Calls.{put_at}
 use Rattle.policy.proofs.Asked.{same}
-use Rattle.policy.proofs.Writes.{put_front}
 use Rattle.weaver.specs.Pieces.{own_of, owns}
 use Rattle.weaver.specs.Weaves.{forget, plain_part, woven_of, woven_file, woven_length, woven_answer, woven_area, MethodAt}
-use Rattle.weaver.proofs.SiteBytes.{write_length}
-use Rattle.weaver.proofs.Bytes.{Wrote, wrote_more, cells_length}
+use Rattle.weaver.specs.declared.pen.Pen.{Pen}
+use Rattle.weaver.specs.Pens.{Room, Wrote}
+use Rattle.weaver.proofs.Bytes.{wrote_more, write_length, cells_length}
 use Rattle.weaver.proofs.Passes.{with_code}
 
 -- ---- the fields of methods
@@ -68,7 +67,7 @@ module _ (A : Automaton) (B : Blocks) (a : machine.Applet) where
   count = length-map (map (map own_of) a.methods) (woven A.watched blk) ∙ length-map a.methods (map own_of)
 
   -- the woven code of a method
-  pub woven_at : (m place : ℕ) (code : List ℕ) → MethodAt a m place code → get_or ws m [] ≡ woven A.watched blk (owns (length a.methods) code)
+  pub woven_at : (m place : ℕ) (code : List (List ℕ)) → MethodAt a m place code → get_or ws m [] ≡ woven A.watched blk (owns (length a.methods) code)
   woven_at m place code h =
       let l = length-map a.methods (map own_of) in
       let t = h.there in
@@ -95,32 +94,29 @@ module _ (A : Automaton) (B : Blocks) (a : machine.Applet) where
     pub small : len ≤ 147 + 16387 * m
     pub rest : sized (method_place a) m (drop m ws) ≡ sized (method_place a) 0 ws
 
-  pub measured_none : (len w : ℕ) → len ≡ 11 + length a.entries + 4 * w → w ≡ length A.starts → length a.entries ≤ 8 → w ≤ 32 → Measured 0 len
-  measured_none len w e l t n = record { within = omega arith; is = omega arith; small = omega arith; rest = refl }
-
   module _ (m len : ℕ) (h : Measured m len) (t : m < length ws) where
     sized_next : sized (method_place a) m (drop m ws) ≡ (need (leb (length (get_or ws m [])) 4096) (MethodTooLong (method_place a m)) >> sized (method_place a) (m + 1) (drop (m + 1) ws))
     sized_next = at_drop_more (sized (method_place a) m) ws m [] t
 
-    pub measured_more : (size : ℕ) → size ≡ length (get_or ws m []) → size ≤ 4096 → Measured (m + 1) (len + (3 + 4 * size))
+    pub measured_more : (size : ℕ) → size ≡ length (get_or ws m []) → length (get_or ws m []) ≤ 4096 → (k : ℕ) → k ≡ m + 1 → Measured k (len + (3 + 4 * size))
     unfolding ◌>>=◌
-    measured_more size e n =
+    measured_more size e n k next =
         let c = count in
         let s = size_next ws m t in
         let i = h.is in
         let b = h.small in
-        let z = le-leb (length (get_or ws m [])) 4096 (omega arith) in
-        record {
+        let z = le-leb (length (get_or ws m [])) 4096 n in
+        rw next (record {
           within = omega arith;
           is = omega arith;
           small = omega arith;
           rest = sym (rw z at sized_next) ∙ h.rest;
-        }
+        })
 
-    pub measured_stops : {X : Type 0} (size : ℕ) (r : Read X) → size ≡ length (get_or ws m []) → 4096 < size → Err (MethodTooLong (method_place a m)) ≡ (sized (method_place a) 0 ws >> r)
+    pub measured_stops : {X : Type 0} (r : Read X) → 4096 < length (get_or ws m []) → Err (MethodTooLong (method_place a m)) ≡ (sized (method_place a) 0 ws >> r)
     unfolding ◌>>=◌
-    measured_stops size r e n =
-        let z = lt-leb (length (get_or ws m [])) 4096 (omega arith) in
+    measured_stops r n =
+        let z = lt-leb (length (get_or ws m [])) 4096 n in
         let s = sym (rw z at sized_next) ∙ h.rest in
         rw (← s)
 
@@ -136,25 +132,21 @@ module _ (A : Automaton) (B : Blocks) (a : machine.Applet) where
 
   -- ---- the methods, one after the other
 
-  module _ (xs : List ℕ) (at : ℕ) (ys : List ℕ) (to m : ℕ) (h : Wrote xs at ys to (write_codes (take m ws))) (t : m < length ws) where
-    pub method_room : to + (3 + 4 * length (get_or ws m [])) ≤ at + length (write_codes ws)
-    method_room = let b = size_below ws m t in let k = h.to in omega arith
+  module _ (p q : Pen) (m : ℕ) (h : Wrote p (write_codes (take m ws)) q) (t : m < length ws) (room : Room p (length (write_codes ws))) where
+    pub method_room : Room q (3 + 4 * length (get_or ws m []))
+    method_room = let b = size_below ws m t in let k = h.at in let l = h.long in omega arith
 
-    pub method_more : (zs : List ℕ) (e : ℕ) → zs ≡ put_at ys to (field 4 (write_code (get_or ws m []))) → e ≡ to + (3 + 4 * length (get_or ws m [])) → to ≤ length xs →
-        Wrote xs at zs e (write_codes (take (m + 1) ws))
-    method_more zs e p q room =
-        let f = field_size (get_or ws m []) in
-        subst (Wrote xs at zs e) (sym (place_next ws m t)) (wrote_more xs at ys to (write_codes (take m ws)) h zs e (field 4 (write_code (get_or ws m []))) p (omega arith) room)
+    pub method_more : (r : Pen) → Wrote q (field 4 (write_code (get_or ws m []))) r → (k : ℕ) → k ≡ m + 1 → Wrote p (write_codes (take k ws)) r
+    method_more r x k next = let b = method_room in let l = h.long in rw (next, place_next ws m t) (wrote_more h x (omega arith))
 
-  pub methods_all : (xs : List ℕ) (at : ℕ) (ys : List ℕ) (to m : ℕ) → Wrote xs at ys to (write_codes (take m ws)) → length a.methods ≤ m → ys ≡ put_at xs at (write_codes ws)
-  methods_all xs at ys to m h l = let c = count in h.is ∙ ap (λ cs. put_at xs at (write_codes cs)) (take_all m ws (omega arith))
+  pub methods_all : (p q : Pen) (m : ℕ) → Wrote p (write_codes (take m ws)) q → length a.methods ≤ m → Wrote p (write_codes ws) q
+  methods_all p q m h l = let c = count in rw (take_all m ws (omega arith)) at h
 
   -- ---- the fields, one after the other
 
-  pub file_put : (xs y1 y2 y3 y4 : List ℕ) (b1 b2 b3 n w : ℕ) (es : List ℕ) → n ≡ length ws → es ≡ a.entries → w ≡ length A.starts → length (write_applet W) ≤ length xs →
-      y1 ≡ put_at xs 0 (field 1 (1 ∷ n ∷ [])) → b1 ≡ 0 + (3 + 2) → y2 ≡ put_at y1 b1 (field 2 es) → b2 ≡ b1 + (3 + length es) →
-      y3 ≡ put_at y2 b2 (field 3 (flat (map quad_of A.starts))) → b3 ≡ b2 + (3 + 4 * w) → y4 ≡ put_at y3 b3 (write_codes ws) → y4 ≡ over_area (write_applet W) xs
-  file_put xs y1 y2 y3 y4 b1 b2 b3 n w es en ee ew room e1 p1 e2 p2 e3 p3 e4 =
+  pub file_put : (p0 p1 p2 p3 p4 : Pen) (n : ℕ) (es : List ℕ) → n ≡ length ws → es ≡ a.entries → Room p0 (length (write_applet W)) →
+      Wrote p0 (field 1 (1 ∷ n ∷ [])) p1 → Wrote p1 (field 2 es) p2 → Wrote p2 (field 3 (flat (map quad_of A.starts))) p3 → Wrote p3 (write_codes ws) p4 → Wrote p0 (write_applet W) p4
+  file_put p0 p1 p2 p3 p4 n es en ee room x1 x2 x3 x4 =
       let f1 = field 1 (1 ∷ length ws ∷ []) in
       let f2 = field 2 a.entries in
       let f3 = field 3 (flat (map quad_of A.starts)) in
@@ -162,13 +154,18 @@ module _ (A : Automaton) (B : Blocks) (a : machine.Applet) where
       let l2 = length_field 2 a.entries in
       let l3 = length_field 3 (flat (map quad_of A.starts)) in
       let lc = cells_length A.starts in
-      let le = ap length ee in
       let fl = file_length in
-      let w1 : Wrote xs 0 y1 b1 f1 = record { is = e1 ∙ ap (λ n. put_at xs 0 (field 1 (1 ∷ n ∷ []))) en; to = omega arith } in
-      let w2 = wrote_more xs 0 y1 b1 f1 w1 y2 b2 f2 (e2 ∙ ap (λ es. put_at y1 b1 (field 2 es)) ee) (omega arith) (omega arith) in
-      let w3 = wrote_more xs 0 y2 b2 (f1 ++ f2) w2 y3 b3 f3 e3 (omega arith) (omega arith) in
-      let w4 = wrote_more xs 0 y3 b3 ((f1 ++ f2) ++ f3) w3 y4 (b3 + length (write_codes ws)) (write_codes ws) e4 refl (omega arith) in
-      w4.is ∙ ap (put_at xs 0) (append_assoc (f1 ++ f2) f3 (write_codes ws) ∙ append_assoc f1 f2 (f3 ++ write_codes ws)) ∙ put_front xs (write_applet W)
+      let y1 : Wrote p0 f1 p1 = rw en at x1 in
+      let y2 : Wrote p1 f2 p2 = rw ee at x2 in
+      let a1 = y1.at in
+      let g1 = y1.long in
+      let w2 = wrote_more y1 y2 (omega arith) in
+      let a2 = y2.at in
+      let g2 = y2.long in
+      let w3 = wrote_more w2 x3 (omega arith) in
+      let a3 = x3.at in
+      let w4 = wrote_more w3 x4 (omega arith) in
+      rw (append_assoc (f1 ++ f2) f3 (write_codes ws), append_assoc f1 f2 (f3 ++ write_codes ws)) at w4
 
 -- ---- plain applets
 

@@ -1,11 +1,11 @@
 -- The weaving of an applet that was read.
-use Rattle.std.specs.Prelude.{◌≡◌, ℕ, ◌+◌, ◌*◌, ◌/◌, ◌<◌, ◌≤◌, Bool, true, false, List, [], map, length, Ok, Err, nat_le, slice_index_or}
+use Rattle.std.specs.Prelude.{◌≡◌, ℕ, ◌+◌, ◌*◌, ◌<◌, ◌≤◌, Bool, true, false, List, [], map, length, Ok, Err, nat_le, slice_index_or}
 use Rattle.model.specs.declared.Instr.{Instr}
 use Rattle.model.specs.Machine as machine
 use Rattle.model.specs.Policy.{Automaton, Blocks}
 use Rattle.model.specs.Weave.{Plain, woven_applet}
 use Rattle.model.specs.Fields.{Read, need, ◌>>=◌, ◌>>◌}
-use Rattle.model.specs.Reading.{Valid, write_applet, method_place}
+use Rattle.model.specs.Reading.{write_applet, method_place}
 use Rattle.model.specs.Files.{plain_of, sized}
 use Rattle.model.specs.Areas.{area_after}
 use Rattle.model.specs.declared.Refusal.TheVariants.{AreaTooShort, FileTooLong}
@@ -16,9 +16,7 @@ use Rattle.weaver.specs.Pieces.{own_of, instrs}
 -- an instruction is one of the applet's own
 abbrev pub is_own : Instr → Bool
 is_own (Instr.Own c) = true
-is_own (Instr.Lock k) = false
-is_own Instr.Unlock = false
-is_own (Instr.Test c) = false
+is_own _ = false
 
 -- what was read, forgotten
 abbrev pub forget : {X : Type 0} → Read X → Read (Unit {0})
@@ -55,16 +53,18 @@ woven_area A B a area = area_after area (woven_file A B a (length area))
 abbrev pub woven_length : Automaton → Blocks → machine.Applet → Read ℕ
 woven_length A B a = sized (method_place a) 0 (woven_of A B a).methods >> Ok (length (write_applet (woven_of A B a)))
 
--- an applet that was read: its methods stand where the model has them, and it is within all limits
+-- an applet that was read: its methods stand where the model has them, and it is within its limits
 pub record Sound (a : Applet) : Type 0 where
   pub placed : Placed a
-  pub valid : Valid (meant a)
+  pub methods : length (meant a).methods ≤ 32
+  pub threads : length (meant a).entries ≤ 8
+  pub sizes : (m : ℕ) → m < length (meant a).methods → length (slice_index_or (meant a).methods m []) ≤ 4096
   pub short : length (write_applet (meant a)) ≤ 65535
 
--- method m of an applet, with its place in the file and its bytes
-pub record MethodAt (a : machine.Applet) (m place : ℕ) (code : List ℕ) : Type 0 where
+-- method m of an applet, with its place in the file and the four bytes of each of its instructions
+pub record MethodAt (a : machine.Applet) (m place : ℕ) (code : List (List ℕ)) : Type 0 where
   pub there : m < length a.methods
   pub placed : place ≡ method_place a m
   pub decoded : instrs (length a.methods) code ≡ slice_index_or a.methods m []
-  pub small : length code / 4 ≤ 4096
-  pub inside : place + 3 + 4 * (length code / 4) ≤ 65535
+  pub small : length code ≤ 4096
+  pub inside : place + 3 + 4 * length code ≤ 65535

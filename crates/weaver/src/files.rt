@@ -1,120 +1,149 @@
 // Woven files.
-ghost use Rattle.std.specs.Prelude.{◌≡◌, ◌+◌, ◌≤◌, length};
+ghost use Rattle.std.specs.Prelude.{◌≡◌, ◌+◌, ◌*◌, ◌≤◌, length, map, take};
 ghost use Rattle.std.specs.List.{AllByRecursion};
-ghost use Rattle.model.specs.Areas.{over_area};
-ghost use Rattle.model.specs.Reading.{write_applet, write_codes};
-ghost use Rattle.model.specs.Weaving.{Limited};
+ghost use Rattle.model.specs.Fields.{field};
+ghost use Rattle.model.specs.Reading.{write_applet, write_code, write_codes, instr_place};
+ghost use Rattle.model.specs.Files.{plain_codes, plain_of};
+ghost use Rattle.model.specs.Words.{flat, quad_of};
 ghost use Rattle.applet.specs.Applets.{meant};
-ghost use Rattle.policy.specs.Calls.{put_at};
-ghost use Rattle.weaver.specs.Pieces.{HostSizes};
-ghost use Rattle.weaver.specs.Weaves.{Sound, woven_of, woven_length, woven_answer, woven_area};
+ghost use Rattle.weaver.specs.Pieces.{own_code, woven_code};
+ghost use Rattle.weaver.specs.Weaves.{forget, woven_of, woven_length, woven_answer, woven_area};
+ghost use Rattle.weaver.specs.Pens.{Room, Wrote};
+ghost use Rattle.weaver.specs.Indices.{Filled};
 
-use crate::code::fill_starts;
-use crate::fields::{put_field, put_starts};
-use crate::methods::{nth_method, plain_applet, put_method};
-use crate::sites::host_sizes;
-use applet::Applet;
+use crate::code::own_in;
+use crate::indices::WovenIndices;
+use crate::methods::Methods;
+use crate::pen::Pen;
+use crate::weaving::Weaving;
 use model::Refusal;
 use policy::Policy;
+use tlv::Part;
 
-// The length of the woven file, if each of its methods is within the limit.
-fn woven_len<P: Policy>(
-    p: &P,
-    applet: &Applet<'_>,
-    sizes: &[u16; 64],
-    starts: &mut [u32; 4097],
-) -> Result<usize, Refusal>
-    requires limited { Limited (P.meaning p.now) (P.blocks p.now) }
-    requires sizes { HostSizes (P.meaning p.now) (P.blocks p.now) sizes.now }
-    requires sound { Sound applet.now }
-    ensures { result ≡ woven_length (P.meaning p.now) (P.blocks p.now) (meant applet.now) }
-{
-    let methods = applet.methods();
-    let mut len = 11 + applet.entries().len() + 4 * p.width() as usize;
-    let mut m: usize = 0;
-    while let Some(x) = nth_method(applet, m) {
-        let size = fill_starts(x.code, methods, sizes, starts);
-        if size > 4096 {
-            return Err(Refusal::MethodTooLong(x.place));
+impl<P: Policy> Weaving<'_, P> {
+    // Refuses the first instruction of all methods that is none of the applet's own.
+    fn plain_methods(&self) -> Result<(), Refusal>
+        ensures { result ≡ forget (plain_codes (instr_place (meant self.now.applet.now)) 0 (meant self.now.applet.now).methods) }
+    {
+        for method in Methods::of(self.applet) {
+            method.plain(self.applet.methods())?;
         }
-        len += 3 + 4 * size;
-        m += 1;
+        Ok(())
     }
-    Ok(len)
-}
 
-// Writes the fields of the woven methods from a place on.
-fn put_methods<P: Policy>(
-    p: &P,
-    applet: &Applet<'_>,
-    sizes: &[u16; 64],
-    starts: &mut [u32; 4097],
-    area: &mut [u8],
-    at: usize,
-)
-    requires limited { Limited (P.meaning p.now) (P.blocks p.now) }
-    requires sizes { HostSizes (P.meaning p.now) (P.blocks p.now) sizes.now }
-    requires sound { Sound applet.now }
-    requires short { AllByRecursion (λ c. length c ≤ 4096) (woven_of (P.meaning p.now) (P.blocks p.now) (meant applet.now)).methods }
-    requires room { at + length (write_codes (woven_of (P.meaning p.now) (P.blocks p.now) (meant applet.now)).methods) ≤ length area.old }
-    ensures { area.new ≡ put_at area.old at (write_codes (woven_of (P.meaning p.now) (P.blocks p.now) (meant applet.now)).methods) }
-{
-    let methods = applet.methods();
-    let mut to = at;
-    let mut m: usize = 0;
-    while let Some(x) = nth_method(applet, m) {
-        to = put_method(p, x.code, methods, sizes, starts, area, to);
-        m += 1;
+    // Refuses an applet that has cells or an instruction that is none of the applet's own.
+    fn plain(&self) -> Result<(), Refusal>
+        ensures { result ≡ forget (plain_of (meant self.now.applet.now)) }
+    {
+        if self.applet.starts() > 0 {
+            return Err(Refusal::NotPlain(8 + self.applet.entries().len()));
+        }
+        self.plain_methods()
     }
-}
 
-// Writes the woven file.
-fn put_file<P: Policy>(
-    p: &P,
-    applet: &Applet<'_>,
-    sizes: &[u16; 64],
-    starts: &mut [u32; 4097],
-    area: &mut [u8],
-)
-    requires limited { Limited (P.meaning p.now) (P.blocks p.now) }
-    requires sizes { HostSizes (P.meaning p.now) (P.blocks p.now) sizes.now }
-    requires sound { Sound applet.now }
-    requires short { AllByRecursion (λ c. length c ≤ 4096) (woven_of (P.meaning p.now) (P.blocks p.now) (meant applet.now)).methods }
-    requires room { length (write_applet (woven_of (P.meaning p.now) (P.blocks p.now) (meant applet.now))) ≤ length area.old }
-    ensures { area.new ≡ over_area (write_applet (woven_of (P.meaning p.now) (P.blocks p.now) (meant applet.now))) area.old }
-{
-    let at = put_field(area, 0, 1, &[1, applet.methods()]);
-    let at = put_field(area, at, 2, applet.entries());
-    let at = put_starts(p, area, at);
-    put_methods(p, applet, sizes, starts, area, at);
-}
-
-// Room for the woven indices of the longest method.
-fn no_starts() -> [u32; 4097] {
-    [0; 4097]
-}
-
-// Weaves an applet that was read.
-pub(crate) fn weave_applet<P: Policy>(
-    p: &P,
-    applet: &Applet<'_>,
-    area: &mut [u8],
-) -> Result<usize, Refusal>
-    requires limited { Limited (P.meaning p.now) (P.blocks p.now) }
-    requires sound { Sound applet.now }
-    ensures answer { result ≡ woven_answer (P.meaning p.now) (P.blocks p.now) (meant applet.now) area.old }
-    ensures area { area.new ≡ woven_area (P.meaning p.now) (P.blocks p.now) (meant applet.now) area.old }
-{
-    plain_applet(applet)?;
-    let sizes = host_sizes(p);
-    let mut starts = no_starts();
-    let len = woven_len(p, applet, &sizes, &mut starts)?;
-    if len > 65535 {
-        return Err(Refusal::FileTooLong);
+    // The length of the woven file, if each of its methods is within the limit.
+    fn woven_len(&self, indices: &mut WovenIndices) -> Result<usize, Refusal>
+        ensures { result ≡ woven_length (P.meaning self.now.policy.now) (P.blocks self.now.policy.now) (meant self.now.applet.now) }
+    {
+        let mut len = 11 + self.applet.entries().len() + 4 * usize::from(self.policy.width());
+        for method in Methods::of(self.applet) {
+            let Some(size) = indices.fill(self, method.code) else {
+                return Err(Refusal::MethodTooLong(method.place));
+            };
+            len += 3 + 4 * size;
+        }
+        Ok(len)
     }
-    if len > area.len() {
-        return Err(Refusal::AreaTooShort);
+
+    // The start values of the policy's cells, then zeros.
+    fn start_row(&self) -> [i32; 32]
+        ensures { take (P.meaning self.now.policy.now).width result ≡ (P.meaning self.now.policy.now).starts }
+    {
+        let mut row = [0; 32];
+        let _ = self.policy.starts(&mut row);
+        row
     }
-    put_file(p, applet, &sizes, &mut starts, area);
-    Ok(len)
+
+    // Writes the field of the start values.
+    #[tactic(auto, using(model::proofs::Places::length_field, crate::proofs::Bytes::cells_length))]
+    fn put_starts(&self, pen: &mut Pen<'_>)
+        requires { Room pen.old (length (field 3 (flat (map quad_of (P.meaning self.now.policy.now).starts)))) }
+        ensures { Wrote pen.old (field 3 (flat (map quad_of (P.meaning self.now.policy.now).starts))) pen.new }
+    {
+        let width = usize::from(self.policy.width());
+        let row = self.start_row();
+        pen.put_head(Part::CELLS, 4 * width);
+        pen.put_cells(&row[..width]);
+    }
+
+    // Writes a method's woven code, its woven indices being known.
+    fn put_code(&self, code: &[[u8; 4]], indices: &WovenIndices, pen: &mut Pen<'_>)
+        requires filled { Filled (P.meaning self.now.policy.now) (P.blocks self.now.policy.now) (own_code (meant self.now.applet.now) code.now) indices.now }
+        requires short { length (woven_code (P.meaning self.now.policy.now) (P.blocks self.now.policy.now) (meant self.now.applet.now) code.now) ≤ 4096 }
+        requires room { Room pen.old (4 * length (woven_code (P.meaning self.now.policy.now) (P.blocks self.now.policy.now) (meant self.now.applet.now) code.now)) }
+        ensures { Wrote pen.old (write_code (woven_code (P.meaning self.now.policy.now) (P.blocks self.now.policy.now) (meant self.now.applet.now) code.now)) pen.new }
+    {
+        let methods = self.applet.methods();
+        for (index, bytes) in code.iter().enumerate() {
+            let c = indices.retarget(own_in(*bytes, methods));
+            self.put_piece(c, indices.of(index), pen);
+        }
+    }
+
+    // Writes the field of a method's woven code.
+    fn put_method(&self, code: &[[u8; 4]], indices: &mut WovenIndices, pen: &mut Pen<'_>)
+        requires size { length code.now ≤ 4096 }
+        requires short { length (woven_code (P.meaning self.now.policy.now) (P.blocks self.now.policy.now) (meant self.now.applet.now) code.now) ≤ 4096 }
+        requires room { Room pen.old (3 + 4 * length (woven_code (P.meaning self.now.policy.now) (P.blocks self.now.policy.now) (meant self.now.applet.now) code.now)) }
+        ensures { Wrote pen.old (field 4 (write_code (woven_code (P.meaning self.now.policy.now) (P.blocks self.now.policy.now) (meant self.now.applet.now) code.now))) pen.new }
+    {
+        // no method is over the limit here
+        let Some(size) = indices.fill(self, code) else {
+            return;
+        };
+        pen.put_head(Part::METHOD, 4 * size);
+        self.put_code(code, indices, pen);
+    }
+
+    // Writes the fields of the woven methods.
+    fn put_methods(&self, indices: &mut WovenIndices, pen: &mut Pen<'_>)
+        requires short { AllByRecursion (λ c. length c ≤ 4096) (woven_of (P.meaning self.now.policy.now) (P.blocks self.now.policy.now) (meant self.now.applet.now)).methods }
+        requires room { Room pen.old (length (write_codes (woven_of (P.meaning self.now.policy.now) (P.blocks self.now.policy.now) (meant self.now.applet.now)).methods)) }
+        ensures { Wrote pen.old (write_codes (woven_of (P.meaning self.now.policy.now) (P.blocks self.now.policy.now) (meant self.now.applet.now)).methods) pen.new }
+    {
+        for method in Methods::of(self.applet) {
+            self.put_method(method.code, indices, pen);
+        }
+    }
+
+    // Writes the woven file.
+    #[tactic(auto, using(crate::proofs::WovenFile::file_length, model::proofs::Places::length_field, crate::proofs::Bytes::cells_length))]
+    fn put_file(&self, indices: &mut WovenIndices, pen: &mut Pen<'_>)
+        requires short { AllByRecursion (λ c. length c ≤ 4096) (woven_of (P.meaning self.now.policy.now) (P.blocks self.now.policy.now) (meant self.now.applet.now)).methods }
+        requires room { Room pen.old (length (write_applet (woven_of (P.meaning self.now.policy.now) (P.blocks self.now.policy.now) (meant self.now.applet.now)))) }
+        ensures { Wrote pen.old (write_applet (woven_of (P.meaning self.now.policy.now) (P.blocks self.now.policy.now) (meant self.now.applet.now))) pen.new }
+    {
+        pen.put_field(Part::HEAD, &[1, self.applet.methods()]);
+        pen.put_field(Part::ENTRIES, self.applet.entries());
+        self.put_starts(pen);
+        self.put_methods(indices, pen);
+    }
+
+    // Weaves the policy into the applet.
+    pub(crate) fn weave(&self, area: &mut [u8]) -> Result<usize, Refusal>
+        ensures answer { result ≡ woven_answer (P.meaning self.now.policy.now) (P.blocks self.now.policy.now) (meant self.now.applet.now) area.old }
+        ensures area { area.new ≡ woven_area (P.meaning self.now.policy.now) (P.blocks self.now.policy.now) (meant self.now.applet.now) area.old }
+    {
+        self.plain()?;
+        let mut indices = WovenIndices::new();
+        let len = self.woven_len(&mut indices)?;
+        if len > 65535 {
+            return Err(Refusal::FileTooLong);
+        }
+        if len > area.len() {
+            return Err(Refusal::AreaTooShort);
+        }
+        self.put_file(&mut indices, &mut Pen::new(area));
+        Ok(len)
+    }
 }

@@ -6,15 +6,17 @@ ghost use Rattle.model.specs.Areas.{weave_answer, weave_area};
 ghost use Rattle.model.specs.Stripping.{Stripped};
 
 use applet::Applet;
-use files::weave_applet;
 use model::Refusal;
 use policy::{Policy, limits};
+use weaving::Weaving;
 
 mod code;
-mod fields;
 mod files;
+mod indices;
 mod methods;
+mod pen;
 mod sites;
+mod weaving;
 
 // Weaves a policy into a plain applet: writes the woven file at the front of the area, and answers its
 // length. On a refusal the area stays as it was. What was written can be stripped of its sites again,
@@ -26,5 +28,5 @@ pub fn weave<P: Policy>(policy: &P, plain: &[u8], area: &mut [u8]) -> Result<usi
 {
     limits(policy)?;
     let applet = Applet::read(plain)?;
-    weave_applet(policy, &applet, area)
+    Weaving::new(policy, &applet).weave(area)
 }

@@ -1,129 +1,76 @@
-// The methods of an applet, and their woven code.
-ghost use Rattle.std.specs.Prelude.{◌≡◌, ℕ, ◌+◌, ◌*◌, ◌/◌, ◌≤◌, length, MatchOption, slice_index};
-ghost use Rattle.model.specs.Reading.{write_code, instr_place};
-ghost use Rattle.model.specs.Files.{plain_code, plain_codes, plain_of};
-ghost use Rattle.applet.specs.Applets.{meant};
-ghost use Rattle.model.specs.Fields.{field};
-ghost use Rattle.model.specs.Weave.{start};
-ghost use Rattle.model.specs.Weaving.{Limited};
-ghost use Rattle.policy.specs.Calls.{put_at};
-ghost use Rattle.weaver.specs.Pieces.{instrs, owns, HostSizes, woven_code};
-ghost use Rattle.weaver.specs.Weaves.{forget, Sound, MethodAt};
+// The methods of an applet.
+ghost use Rattle.std.specs.Prelude.{◌≡◌, ◌+◌, ◌*◌, ◌≤◌, not, length, position};
+ghost use Rattle.model.specs.Files.{plain_code};
+ghost use Rattle.weaver.specs.Pieces.{instr_in, instrs};
+ghost use Rattle.weaver.specs.Weaves.{is_own, forget, Sound};
+ghost use Rattle.std.proofs.Props.{props};
 
-use crate::code::{fill_starts, own_at, own_there, retarget};
-use crate::fields::put_head;
-use crate::sites::put_piece;
+use crate::code::is_own;
 use applet::Applet;
 use model::Refusal;
-use policy::Policy;
 
-// A method: its place in the file, and its code.
+// A method: its place in the file, and the four bytes of each of its instructions.
 #[derive(Clone, Copy)]
 pub(crate) struct Method<'a> {
     pub place: usize,
-    pub code: &'a [u8],
+    pub code: &'a [[u8; 4]],
 }
 
-// A method of an applet, if there is one.
-pub(crate) fn nth_method<'a>(applet: &Applet<'a>, m: usize) -> Option<Method<'a>>
-    requires { Sound applet.now }
-    ensures { MatchOption result (length (meant applet.now).methods ≤ m) (λ x. MethodAt (meant applet.now) m x.place x.code.now) }
-{
-    let Some(place) = applet.place(m) else {
-        return None;
-    };
-    let Some(code) = applet.code(m) else {
-        return None;
-    };
-    Some(Method { place, code })
+// The methods of an applet from one of them on.
+#[derive(Drop)]
+pub(crate) struct Methods<'a> {
+    pub applet: &'a Applet<'a>,
+    pub next: usize,
+    ghost sound: { Sound applet.now } by { Prim.hlevel props },
 }
 
-// Refuses the first instruction of a method that is none of the applet's own; the code stands at a
-// place of the file.
-fn plain_method(code: &[u8], methods: u8, place: usize) -> Result<(), Refusal>
-    requires { place + 4 * (length code.now / 4) ≤ 65535 }
-    ensures { result ≡ forget (plain_code (λ i. place + 4 * i) 0 (instrs methods code.now)) }
-{
-    for index in 0..code.len() / 4 {
-        if !own_there(code, index, methods) {
-            return Err(Refusal::NotPlain(place + 4 * index));
+impl<'a> Methods<'a> {
+    // All methods of an applet that was read.
+    pub(crate) fn of(applet: &'a Applet<'a>) -> Methods<'a>
+        requires { Sound applet.now }
+        ensures applet { result.applet.now ≡ applet.now }
+        ensures next { result.next ≡ 0 }
+    {
+        Methods { applet, next: 0 }
+    }
+}
+
+impl<'a> Iterator for Methods<'a> {
+    ghost use Rattle.std.specs.Prelude.{◌-◌, length};
+    ghost use Rattle.std.specs.Iterator.{at_most};
+    ghost use Rattle.applet.specs.Applets.{meant};
+    ghost use Rattle.weaver.specs.Steps.{GivesMethod};
+
+    type Item = Method<'a>;
+
+    ghost remaining = { λ s. at_most (length (meant s.applet.now).methods - s.next) };
+
+    ghost next_gives = { GivesMethod };
+
+    fn next(&mut self) -> Option<Method<'a>> {
+        let place = self.applet.place(self.next)?;
+        let (code, _) = self.applet.code(self.next)?.as_chunks();
+        self.next += 1;
+        Some(Method { place, code })
+    }
+}
+
+impl Method<'_> {
+    // The index of the first instruction that is none of the applet's own.
+    fn first_added(&self, methods: u8) -> Option<usize>
+        ensures { result ≡ position (λ b. not (is_own (instr_in methods b))) self.now.code.now }
+    {
+        self.code.iter().position(|bytes| !is_own(*bytes, methods))
+    }
+
+    // Refuses a method with such an instruction.
+    pub(crate) fn plain(&self, methods: u8) -> Result<(), Refusal>
+        requires { self.now.place + 3 + 4 * length self.now.code.now ≤ 65535 }
+        ensures { result ≡ forget (plain_code (λ i. self.now.place + 3 + 4 * i) 0 (instrs methods self.now.code.now)) }
+    {
+        match self.first_added(methods) {
+            Some(index) => Err(Refusal::NotPlain(self.place + 3 + 4 * index)),
+            None => Ok(()),
         }
     }
-    Ok(())
-}
-
-// The same of all methods.
-fn plain_methods(applet: &Applet<'_>) -> Result<(), Refusal>
-    requires { Sound applet.now }
-    ensures { result ≡ forget (plain_codes (instr_place (meant applet.now)) 0 (meant applet.now).methods) }
-{
-    let methods = applet.methods();
-    let mut m: usize = 0;
-    while let Some(x) = nth_method(applet, m) {
-        plain_method(x.code, methods, x.place + 3)?;
-        m += 1;
-    }
-    Ok(())
-}
-
-// Refuses an applet that has cells or an instruction that is none of the applet's own.
-pub(crate) fn plain_applet(applet: &Applet<'_>) -> Result<(), Refusal>
-    requires { Sound applet.now }
-    ensures { result ≡ forget (plain_of (meant applet.now)) }
-{
-    if applet.starts() > 0 {
-        return Err(Refusal::NotPlain(8 + applet.entries().len()));
-    }
-    plain_methods(applet)
-}
-
-// Writes a method's woven code, its woven indices being known, and answers the place behind it.
-fn put_code<P: Policy>(
-    p: &P,
-    code: &[u8],
-    methods: u8,
-    sizes: &[u16; 64],
-    starts: &[u32; 4097],
-    area: &mut [u8],
-    at: usize,
-) -> usize
-    requires limited { Limited (P.meaning p.now) (P.blocks p.now) }
-    requires sizes { HostSizes (P.meaning p.now) (P.blocks p.now) sizes.now }
-    requires size { length code.now / 4 ≤ 4096 }
-    requires starts { (j : ℕ) → j ≤ length code.now / 4 → slice_index starts.now j ≡ start (P.meaning p.now).watched (λ k t. P.blocks p.now k t 0) (owns methods code.now) j }
-    requires short { length (woven_code (P.meaning p.now) (P.blocks p.now) methods code.now) ≤ 4096 }
-    requires room { at + 4 * length (woven_code (P.meaning p.now) (P.blocks p.now) methods code.now) ≤ length area.old }
-    ensures area { area.new ≡ put_at area.old at (write_code (woven_code (P.meaning p.now) (P.blocks p.now) methods code.now)) }
-    ensures behind { result ≡ at + 4 * length (woven_code (P.meaning p.now) (P.blocks p.now) methods code.now) }
-{
-    let count = code.len() / 4;
-    let mut to = at;
-    for index in 0..count {
-        let c = retarget(own_at(code, index, methods), starts, count);
-        to = put_piece(p, c, starts[index] as u16, sizes, area, to);
-    }
-    to
-}
-
-// Writes the field of a method's woven code, and answers the place behind it.
-pub(crate) fn put_method<P: Policy>(
-    p: &P,
-    code: &[u8],
-    methods: u8,
-    sizes: &[u16; 64],
-    starts: &mut [u32; 4097],
-    area: &mut [u8],
-    at: usize,
-) -> usize
-    requires limited { Limited (P.meaning p.now) (P.blocks p.now) }
-    requires sizes { HostSizes (P.meaning p.now) (P.blocks p.now) sizes.now }
-    requires size { length code.now / 4 ≤ 4096 }
-    requires short { length (woven_code (P.meaning p.now) (P.blocks p.now) methods code.now) ≤ 4096 }
-    requires room { at + (3 + 4 * length (woven_code (P.meaning p.now) (P.blocks p.now) methods code.now)) ≤ length area.old }
-    ensures area { area.new ≡ put_at area.old at (field 4 (write_code (woven_code (P.meaning p.now) (P.blocks p.now) methods code.now))) }
-    ensures behind { result ≡ at + (3 + 4 * length (woven_code (P.meaning p.now) (P.blocks p.now) methods code.now)) }
-{
-    let size = fill_starts(code, methods, sizes, starts);
-    let at = put_head(area, at, 4, 4 * size);
-    put_code(p, code, methods, sizes, starts, area, at)
 }

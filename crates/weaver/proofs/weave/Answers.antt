@@ -3,6 +3,7 @@ use Rattle.std.proofs.lemmas.Result.{err_from_is_err_and, IfOk-from_err}
 use Rattle.model.specs.Files.{policy_limits}
 use Rattle.model.proofs.Weaving.{limited}
 use Rattle.applet.specs.Applets.{meant, read_seen}
+use Rattle.weaver.proofs.Passes.{read_sound}
 use Rattle.weaver.proofs.WholeWeave.{read_short, limits_refused, read_refused, read_woven, strips}
 use Rattle.weaver.proofs.weave.Goals as goal
 use Rattle.weaver.proofs.weave.Goals.{In_ok-limits}
@@ -26,16 +27,16 @@ returns-in_err-applet g c =
     (sym c.read.ensures.value ∙ ap read_seen c.in_err-applet.was) in
     record { answer = r.1 ∙ ap Err r.2 ∙ e.0; area = e.1; stripped = IfOk-from_err c.from_residual-in_err-applet.result _ c.from_residual-in_err-applet.ensures.0 }
 
-pub weave_applet-requires : goal.weave_applet-requires
-weave_applet-requires g c =
-    let k = (goal.at.weave_applet-requires g c).In_ok-limits in
+pub new-requires : goal.new-requires
+new-requires g c =
+    let k = (goal.at.new-requires g c).In_ok-limits in
     let x = c.in_ok-applet.ensures in
     let f = c.args.plain.now in
     let l = ap length x.kept.written in
     let n = read_short f (meant c.in_ok-applet.applet) (sym x.value) in
     record {
       limited = limited (g.P.Policy.meaning c.args.policy.now) (g.P.Policy.blocks c.args.policy.now) tt (within g k);
-      sound = record { placed = x.places; valid = x.kept.valid; short = omega arith };
+      sound = read_sound c.in_ok-applet.applet x.places x.kept.valid (omega arith);
     }
 
 pub returns : goal.returns
@@ -46,6 +47,8 @@ returns g c =
     let xs = c.args.area.now in
     let k = (goal.at.returns g c).In_ok-limits in
     let e = read_woven A B f xs (within g k) (meant c.in_ok-applet.applet) (sym c.in_ok-applet.ensures.value) in
-    let r = c.weave_applet.ensures.answer ∙ e.0 in
-    let n = c.weave_applet.ensures.area ∙ e.1 in
-    record { answer = r; area = n; stripped = strips A B f xs (g.P.Policy.shows c.args.policy.now) c.weave_applet.result c.weave_applet.new.area r n }
+    let p = c.new.ensures.policy in
+    let q = c.new.ensures.applet in
+    let r = (rw (p, q) at c.weave.ensures.answer) ∙ e.0 in
+    let n = (rw (p, q) at c.weave.ensures.area) ∙ e.1 in
+    record { answer = r; area = n; stripped = strips A B f xs (g.P.Policy.shows c.args.policy.now) c.weave.result c.weave.new.area r n }
