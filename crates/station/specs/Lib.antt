@@ -1,2 +1,3 @@
--- sites in woven code
+-- sites in woven code, and policies of whichever kind
 pub mod Sites
+pub mod Held

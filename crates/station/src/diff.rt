@@ -1,175 +1,164 @@
 // A plain applet and a woven one, side by side.
+use crate::code::Words;
 use crate::sites;
 use crate::sites::{Site, Spot};
 use crate::words::Written;
 use applet::Applet;
 use opcodes::Word;
 use std::alloc::{AllocError, Global};
+use std::fmt;
 
-// An instruction with its index.
+// One side of a row: an instruction with its index, or nothing.
 #[derive(Clone, Copy)]
-struct Indexed {
-    index: usize,
-    word: Word,
+pub struct Side(Option<(usize, Word)>);
+
+impl fmt::Display for Side {
+    fn fmt<W: fmt::Write>(&self, f: &mut fmt::Formatter<W>) -> fmt::Result {
+        match self.0 {
+            Some((index, word)) => write!(f, "{index:>5}  {}", Written(word)),
+            None => Ok(()),
+        }
+    }
 }
 
-// What the rows of a method came to: how many sites there are, and how many rows in which the woven
-// instruction does not stand for the plain one.
+// A plain instruction, the woven one beside it, the leg of its site, and whether the second stands for
+// the first.
 #[derive(Clone, Copy)]
-struct Counts {
+struct Row {
+    plain: Side,
+    woven: Side,
+    leg: &'static str,
+    stands: bool,
+}
+
+// The rows of a method as they are printed, and what they have come to: how many sites there are, and
+// how many rows in which the woven instruction does not stand for the plain one.
+#[derive(Drop)]
+struct Rows<'a> {
+    rt: &'a HostRuntime,
+    woven: &'a [u8],
     sites: usize,
     apart: usize,
 }
 
-// The instruction at an index of a method's code, if there is one.
-fn placed(code: &[u8], index: usize) -> Option<Indexed> {
-    match sites::word_at(code, index) {
-        Some(word) => Some(Indexed { index, word }),
-        None => None,
-    }
-}
-
-// Index, name and operands; nothing for no instruction.
-fn side(heap: Global, p: Option<Indexed>) -> Result<String, AllocError> {
-    let Some(p) = p else {
-        return String::from_str(heap, "");
-    };
-    let index = p.index;
-    let written = Written { word: p.word };
-    format!(in heap; "{index:>5}  {written}")
-}
-
-// A row: a plain instruction, the woven one, and the leg of its site; whether the second stands for the
-// first. The first row of a method that does not is pointed out.
-fn row(
-    rt: &HostRuntime,
-    plain: Option<Indexed>,
-    woven: Option<Indexed>,
-    leg: &str,
-    stands: bool,
-    counts: &mut Counts,
-) -> anyhow::Result<()> {
-    let left = side(rt.alloc(), plain)?;
-    let right = side(rt.alloc(), woven)?;
-    let mark = if stands { " " } else { "!" };
-    println!(rt; "{mark} {left:<30}  {leg:<6}  {right}")?;
-    if !stands {
-        if counts.apart == 0 {
-            println!(rt; "! they part here")?;
+impl Rows<'_> {
+    // One row. The first of a method whose sides part is pointed out.
+    fn row(&mut self, row: Row) -> anyhow::Result<()> {
+        let rt = self.rt;
+        let left = row.plain.to_string(rt.alloc())?;
+        let mark = if row.stands { " " } else { "!" };
+        println!(rt; "{mark} {left:<30}  {:<6}  {}", row.leg, row.woven)?;
+        if !row.stands {
+            if self.apart == 0 {
+                println!(rt; "! they part here")?;
+            }
+            self.apart = self.apart.saturating_add(1);
         }
-        counts.apart = counts.apart.saturating_add(1);
+        Ok(())
     }
-    Ok(())
-}
 
-// The index behind what stands for a plain instruction from an index of the woven code on: a site for a
-// HOST where a whole one stands, else one instruction.
-fn behind(word: Word, woven: &[u8], at: usize) -> usize {
-    if word.op == 0x0d {
-        if let Some((_, end)) = sites::site_at(woven, at, word.x, 0) {
-            return end;
+    // The rows of the site that stands at an index of the woven code for a plain instruction.
+    fn site(&mut self, plain: (usize, Word), at: usize, site: Site) -> anyhow::Result<()> {
+        let mut spot = Spot::Lock;
+        let whole = site.end.saturating_sub(at);
+        for (index, word) in Words(self.woven).enumerate().skip(at).take(whole) {
+            let mut left = Some(plain);
+            if index > at {
+                spot = sites::next_spot(spot, word.op).unwrap_or(spot);
+                left = None;
+            }
+            self.row(Row {
+                plain: Side(left),
+                woven: Side(Some((index, word))),
+                leg: sites::leg(spot),
+                stands: sites::spot_fits(spot, word, site),
+            })?;
         }
+        self.sites = self.sites.saturating_add(1);
+        Ok(())
     }
-    at.saturating_add(1)
+
+    // The rows of a plain instruction, from an index of the woven code on; its target's woven index is
+    // known.
+    fn instruction(
+        &mut self,
+        plain: (usize, Word),
+        at: usize,
+        target: usize,
+    ) -> anyhow::Result<()> {
+        let (_, word) = plain;
+        if let Some(site) = site_for(word, self.woven, at, target) {
+            return self.site(plain, at, site);
+        }
+        let here = sites::word_at(self.woven, at);
+        self.row(Row {
+            plain: Side(Some(plain)),
+            woven: Side(here.map(|w| (at, w))),
+            leg: "",
+            stands: here.is_some_and(|w| sites::same_word(word, w, target)),
+        })
+    }
+
+    // The woven instructions that are left, which stand for nothing.
+    fn rest(&mut self, from: usize) -> anyhow::Result<()> {
+        for here in Words(self.woven).enumerate().skip(from) {
+            self.row(Row {
+                plain: Side(None),
+                woven: Side(Some(here)),
+                leg: "",
+                stands: false,
+            })?;
+        }
+        Ok(())
+    }
+
+    // All rows of a method.
+    fn code(&mut self, plain: &[u8]) -> anyhow::Result<()> {
+        let starts = starts(self.rt.alloc(), plain, self.woven)?;
+        for (p, at) in Words(plain).enumerate().zip(starts.iter()) {
+            let (_, word) = p;
+            let target = starts.get(usize::from(word.y)).copied().unwrap_or(0);
+            self.instruction(p, *at, target)?;
+        }
+        self.rest(starts.last().copied().unwrap_or(0))
+    }
 }
 
-// The woven index of each plain index, and of the plain code's end.
+// The site that stands for a plain instruction at an index of the woven code, if it is a HOST and a whole
+// one does.
+fn site_for(plain: Word, woven: &[u8], at: usize, back: usize) -> Option<Site> {
+    if plain.op != 0x0d {
+        return None;
+    }
+    sites::site_at(woven, at, plain.x, back)
+}
+
+// The woven index of each plain index, and of the plain code's end. A site stands for a HOST where a whole
+// one does, else one instruction stands for one.
 fn starts(heap: Global, plain: &[u8], woven: &[u8]) -> Result<Vec<usize>, AllocError> {
     let mut all = Vec::new(heap);
     let mut at = 0usize;
-    for index in 0..plain.len() / 4 {
+    for word in Words(plain) {
         all.push(at)?;
-        if let Some(word) = sites::word_at(plain, index) {
-            at = behind(word, woven, at);
-        }
+        at = site_for(word, woven, at, 0).map_or(at.saturating_add(1), |site| site.end);
     }
     all.push(at)?;
     Ok(all)
 }
 
-// The rows of a site.
-fn site_rows(
-    rt: &HostRuntime,
-    plain: Indexed,
-    woven: &[u8],
-    at: usize,
-    site: Site,
-    end: usize,
-    counts: &mut Counts,
-) -> anyhow::Result<()> {
-    let mut spot = Spot::Lock;
-    let mut left = Some(plain);
-    for index in at..end {
-        let Some(here) = placed(woven, index) else {
-            return Ok(());
-        };
-        if index > at {
-            if let Some(next) = sites::next_spot(spot, here.word.op) {
-                spot = next;
-            }
-        }
-        let fits = sites::spot_fits(spot, here.word, site);
-        row(rt, left, Some(here), sites::leg(spot), fits, counts)?;
-        left = None;
-    }
-    counts.sites = counts.sites.saturating_add(1);
-    Ok(())
-}
-
-// The rows of a plain instruction, from an index of the woven code on; its target's woven index is
-// known.
-fn rows(
-    rt: &HostRuntime,
-    plain: Indexed,
-    woven: &[u8],
-    at: usize,
-    target: usize,
-    counts: &mut Counts,
-) -> anyhow::Result<()> {
-    if plain.word.op == 0x0d {
-        if let Some((site, end)) = sites::site_at(woven, at, plain.word.x, target) {
-            return site_rows(rt, plain, woven, at, site, end, counts);
-        }
-    }
-    let here = placed(woven, at);
-    let stands = match here {
-        Some(w) => sites::same_word(plain.word, w.word, target),
-        None => false,
-    };
-    row(rt, Some(plain), here, "", stands, counts)
-}
-
-// The woven instructions that are left, which stand for nothing.
-fn rest(rt: &HostRuntime, woven: &[u8], from: usize, counts: &mut Counts) -> anyhow::Result<()> {
-    for index in from..woven.len() / 4 {
-        row(rt, None, placed(woven, index), "", false, counts)?;
-    }
-    Ok(())
-}
-
-// All rows of a method.
-fn code(rt: &HostRuntime, plain: &[u8], woven: &[u8], counts: &mut Counts) -> anyhow::Result<()> {
-    let starts = starts(rt.alloc(), plain, woven)?;
-    let count = plain.len() / 4;
-    for index in 0..count {
-        if let Some(p) = placed(plain, index) {
-            let at = starts.get(index).copied().unwrap_or(0);
-            let target = starts.get(p.word.y as usize).copied().unwrap_or(0);
-            rows(rt, p, woven, at, target, counts)?;
-        }
-    }
-    rest(rt, woven, starts.get(count).copied().unwrap_or(0), counts)
-}
-
 // One method: its rows, then instructions before and after, and sites. Whether each row corresponds.
 fn method(rt: &HostRuntime, m: usize, plain: &[u8], woven: &[u8]) -> anyhow::Result<bool> {
-    let mut counts = Counts { sites: 0, apart: 0 };
     println!(rt; "method {m}")?;
-    code(rt, plain, woven, &mut counts)?;
+    let mut rows = Rows {
+        rt,
+        woven,
+        sites: 0,
+        apart: 0,
+    };
+    rows.code(plain)?;
+    let Rows { sites, apart, .. } = rows;
     let was = plain.len() / 4;
     let is = woven.len() / 4;
-    let sites = counts.sites;
-    let apart = counts.apart;
     print!(rt; "method {m}: {was} instructions, woven {is}, sites {sites}")?;
     if apart > 0 {
         print!(rt; ", rows that part {apart}")?;
@@ -212,12 +201,10 @@ pub(crate) fn applets(
     woven: &Applet<'_>,
 ) -> anyhow::Result<bool> {
     let mut all = heads(rt, plain, woven)?;
-    for m in 0..plain.methods().max(woven.methods()) as usize {
+    for m in 0..usize::from(plain.methods().max(woven.methods())) {
         let p = plain.code(m).unwrap_or(&[]);
         let w = woven.code(m).unwrap_or(&[]);
-        if !method(rt, m, p, w)? {
-            all = false;
-        }
+        all &= method(rt, m, p, w)?;
     }
     Ok(all)
 }

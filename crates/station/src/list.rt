@@ -1,38 +1,20 @@
 // The listing of an applet.
+use crate::code::Words;
 use crate::words::Written;
 use applet::Applet;
-use opcodes::Word;
 
-// One instruction: index, place, name and operands.
-fn instruction(rt: &HostRuntime, word: &[u8], index: usize, place: usize) -> anyhow::Result<()> {
-    let [op, x, high, low] = word else {
-        return Ok(());
-    };
-    let written = Written {
-        word: Word {
-            op: *op,
-            x: *x,
-            y: u16::from_be_bytes([*high, *low]),
-        },
-    };
-    println!(rt; "  {index:>5} {place:>6}  {written}")?;
-    Ok(())
-}
-
-// The instructions of a method, whose code stands at a place.
+// The instructions of a method, whose code stands at a place: index, place, name and operands.
 pub(crate) fn code(rt: &HostRuntime, code: &[u8], place: usize) -> anyhow::Result<()> {
-    for (i, word) in code.chunks(4).enumerate() {
-        instruction(rt, word, i, place.saturating_add(i.saturating_mul(4)))?;
+    for (index, word) in Words(code).enumerate() {
+        let place = place.saturating_add(index.saturating_mul(4));
+        println!(rt; "  {index:>5} {place:>6}  {}", Written(word))?;
     }
     Ok(())
 }
 
 // One method: its place, then its instructions.
 fn method(rt: &HostRuntime, a: &Applet<'_>, m: usize) -> anyhow::Result<()> {
-    let Some(place) = a.place(m) else {
-        return Ok(());
-    };
-    let Some(bytes) = a.code(m) else {
+    let (Some(place), Some(bytes)) = (a.place(m), a.code(m)) else {
         return Ok(());
     };
     let count = bytes.len() / 4;
@@ -55,7 +37,7 @@ pub(crate) fn applet(rt: &HostRuntime, a: &Applet<'_>, bytes: usize) -> anyhow::
             println!(rt; "cell {s} starts at {v}")?;
         }
     }
-    for m in 0..methods as usize {
+    for m in 0..usize::from(methods) {
         method(rt, a, m)?;
     }
     Ok(())

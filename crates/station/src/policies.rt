@@ -1,67 +1,43 @@
 // Policies: their report, their blocks, and a watch that judges a script.
 use crate::scripts::WatchLine;
+use crate::stop::{Stop, at_path};
+use crate::views::Cells;
+use crate::words::Numbered;
 use crate::{list, scripts, weave};
-use model::{Moment, Refusal, Verdict};
+use model::{Moment, Verdict};
 use policy::{Policy, Watch};
 use std::fs;
 
-// What is asked of a policy; a watch also takes a script, and weaving a plain applet and the path of
-// the file to write.
+// What is asked of a policy: its report; a block; a watch that judges a script; or to weave it into a
+// plain applet and write the woven file at a path. No closure, as one is not generic over the policy.
 #[derive(Clone, Copy)]
-pub(crate) enum Task {
+pub(crate) enum Task<'a> {
     Report,
-    Block(u8, Moment, u8),
-    Watch,
-    Weave,
-}
-
-// How a task ended: with its report, with a refusal, or with an error, of which standard error was
-// told.
-#[derive(Clone, Copy)]
-pub(crate) enum Answer {
-    Done,
-    Refused(Refusal),
-    Failed,
-}
-
-// The cells of a policy, in square brackets.
-fn cells(rt: &HostRuntime, row: &[i32; 32], width: u8) -> anyhow::Result<()> {
-    print!(rt; "[")?;
-    for (i, v) in row.iter().enumerate() {
-        if i < width as usize {
-            let gap = if i == 0 { "" } else { " " };
-            print!(rt; "{gap}{v}")?;
-        }
-    }
-    println!(rt; "]")?;
-    Ok(())
+    Block { call: u8, moment: Moment, first: u8 },
+    Watch(&'a str),
+    Weave { plain: &'a [u8], woven: &'a str },
 }
 
 // A watched call, with the length of each of its blocks.
 fn watched<P: Policy>(rt: &HostRuntime, p: &P, call: u8) -> anyhow::Result<()> {
-    let before = p.block_len(call, Moment::Before);
-    let after = p.block_len(call, Moment::After);
-    let raised = p.block_len(call, Moment::Raised);
+    let [before, after, raised] = Moment::ALL.map(|moment| p.block_len(call, moment));
     println!(rt; "call {call}: before {before}, after {after}, raised {raised}")?;
     Ok(())
 }
 
 // Kind, width, starts, and the watched calls.
-fn report<P: Policy>(rt: &HostRuntime, p: &P, kind: &str) -> anyhow::Result<Answer> {
-    let mut row = [0i32; 32];
-    if let Err(r) = p.starts(&mut row) {
-        return Ok(Answer::Refused(r));
-    }
+fn report<P: Policy>(rt: &HostRuntime, p: &P, kind: &str) -> Result<(), Stop> {
+    let mut row = [0; 32];
+    p.starts(&mut row)?;
     let width = p.width();
     println!(rt; "kind {kind}, width {width}")?;
-    print!(rt; "starts ")?;
-    cells(rt, &row, width)?;
-    for call in 0..64u8 {
-        if let Ok(true) = p.watches(call) {
+    println!(rt; "starts {}", Cells(&row[..usize::from(width).min(32)]))?;
+    for call in 0..64 {
+        if p.watches(call) == Ok(true) {
             watched(rt, p, call)?;
         }
     }
-    Ok(Answer::Done)
+    Ok(())
 }
 
 // Lists the block for a call, a moment and a first cell.
@@ -71,95 +47,76 @@ fn block<P: Policy>(
     call: u8,
     moment: Moment,
     first: u8,
-) -> anyhow::Result<Answer> {
-    let mut area = [0u8; 4000];
-    match p.write_block(call, moment, first, &mut area) {
-        Ok(n) => {
-            println!(rt; "{n} instructions")?;
-            let end = n.saturating_mul(4).min(4000);
-            list::code(rt, &area[0..end], 0)?;
-            Ok(Answer::Done)
-        }
-        Err(r) => Ok(Answer::Refused(r)),
-    }
-}
-
-// What a call of the watch answered.
-fn verdict(v: Verdict) -> &'static str {
-    match v {
-        Verdict::Taken => "taken ",
-        Verdict::Refused => "refused ",
-    }
-}
-
-// A numbered refusal.
-fn numbered(rt: &HostRuntime, r: Refusal) -> anyhow::Result<()> {
-    let n = r.number();
-    let p = r.place();
-    println!(rt; "refused {n} {p}")?;
+) -> Result<(), Stop> {
+    let mut area = [0; 4000];
+    let n = p.write_block(call, moment, first, &mut area)?;
+    println!(rt; "{n} instructions")?;
+    let end = n.saturating_mul(4).min(4000);
+    list::code(rt, &area[..end], 0)?;
     Ok(())
 }
 
-// Carries out one line of a script.
-fn line<P: Policy>(
-    rt: &HostRuntime,
-    w: &mut Watch<P>,
-    row: &mut [i32; 32],
-    width: u8,
-    l: WatchLine,
-) -> anyhow::Result<()> {
-    let said = match l {
-        WatchLine::Begin => match w.begin(row) {
-            Ok(()) => "begun ",
-            Err(r) => return numbered(rt, r),
-        },
-        WatchLine::Event(moment, call, args, answer) => match w.judge(
-            moment, call, &args, answer, row,
-        ) {
-            Ok(v) => verdict(v),
-            Err(r) => return numbered(rt, r),
-        },
-    };
-    print!(rt; "{said}")?;
-    cells(rt, row, width)
+// What a watch says of an event.
+fn verdict(v: Verdict) -> &'static str {
+    match v {
+        Verdict::Taken => "taken",
+        Verdict::Refused => "refused",
+    }
+}
+
+// A watch over a policy with its row of cells, of which the policy has so many.
+#[derive(Drop)]
+struct Judge<P> {
+    watch: Watch<P>,
+    row: [i32; 32],
+    width: usize,
+}
+
+impl<P: Policy> Judge<P> {
+    // Carries out one line of a script.
+    fn line(&mut self, rt: &HostRuntime, l: &WatchLine) -> anyhow::Result<()> {
+        let said = match l {
+            WatchLine::Begin => self.watch.begin(&mut self.row).map(|()| "begun"),
+            WatchLine::Event(event) => self.watch.judge(event, &mut self.row).map(verdict),
+        };
+        match said {
+            Ok(said) => println!(rt; "{said} {}", Cells(&self.row[..self.width.min(32)]))?,
+            Err(r) => println!(rt; "{}", Numbered(r))?,
+        }
+        Ok(())
+    }
 }
 
 // Judges a script.
-fn watch<P: Policy + Drop>(rt: &HostRuntime, p: P, text: &str) -> anyhow::Result<Answer> {
-    let width = p.width();
-    let mut row = [0i32; 32];
-    let mut w = Watch::new(p);
-    for (i, l) in text.lines().enumerate() {
-        let Some(parsed) = scripts::watch_line(rt.alloc(), l)? else {
-            let number = i.saturating_add(1);
-            eprintln!(rt; "station: line {number} of the script is no begin and no event")?;
-            return Ok(Answer::Failed);
-        };
-        line(rt, &mut w, &mut row, width, parsed)?;
+fn watch<P: Policy + Drop>(rt: &HostRuntime, p: P, script: &str) -> Result<(), Stop> {
+    let width = usize::from(p.width());
+    let mut judge = Judge {
+        watch: Watch::new(p),
+        row: [0; 32],
+        width,
+    };
+    for (i, l) in script.lines().enumerate() {
+        let words: Vec<&str> = l.split_whitespace().collect(rt.alloc())?;
+        let l = scripts::watch_line(&words).ok_or(Stop::NoEvent(i.saturating_add(1)))?;
+        judge.line(rt, &l)?;
     }
-    Ok(Answer::Done)
+    Ok(())
 }
 
 // Weaves a policy into a plain applet, writes the woven file, and reports; on a refusal no file is
 // written.
-fn weave_file<P: Policy>(
-    rt: &HostRuntime,
-    p: &P,
-    plain: &[u8],
-    path: &str,
-) -> anyhow::Result<Answer> {
-    let mut area = Vec::from_elem(rt.alloc(), 0u8, 65535)?;
-    let n = match weaver::weave(p, plain, area.as_mut_slice()) {
-        Ok(n) => n,
-        Err(r) => return Ok(Answer::Refused(r)),
-    };
+fn weave_file<P: Policy>(rt: &HostRuntime, p: &P, plain: &[u8], woven: &str) -> Result<(), Stop> {
+    let mut area = Vec::from_elem(rt.alloc(), 0, 65535)?;
+    let n = weaver::weave(p, plain, area.as_mut_slice())?;
     area.truncate(n);
-    if let Err(e) = fs::write(rt, path, area.as_slice()) {
-        eprintln!(rt; "station: {path}: {e}")?;
-        return Ok(Answer::Failed);
-    }
+    at_path(
+        rt.alloc(),
+        woven,
+        fs::write(rt, woven, area.as_slice()),
+        Stop::File,
+    )?;
     weave::report(rt, plain, area.as_slice())?;
-    Ok(Answer::Done)
+    Ok(())
 }
 
 // Carries out a task on a policy.
@@ -167,14 +124,16 @@ pub(crate) fn carry_out<P: Policy + Drop>(
     rt: &HostRuntime,
     p: P,
     kind: &str,
-    task: Task,
-    script: &str,
-    plain: &[u8],
-) -> anyhow::Result<Answer> {
+    task: Task<'_>,
+) -> Result<(), Stop> {
     match task {
         Task::Report => report(rt, &p, kind),
-        Task::Block(call, moment, first) => block(rt, &p, call, moment, first),
-        Task::Watch => watch(rt, p, script),
-        Task::Weave => weave_file(rt, &p, plain, script),
+        Task::Block {
+            call,
+            moment,
+            first,
+        } => block(rt, &p, call, moment, first),
+        Task::Watch(script) => watch(rt, p, script),
+        Task::Weave { plain, woven } => weave_file(rt, &p, plain, woven),
     }
 }

@@ -1,162 +1,150 @@
 // Running an applet: by a script, or round robin over its threads.
 use crate::scripts;
-use crate::scripts::RunLine;
-use machine::{Machine, State};
-use model::{Outcome, Reason, Status};
+use crate::stop::Stop;
+use crate::views::Numbers;
+use applet::Applet;
+use machine::{Act, Machine, Position, State};
+use model::{Outcome, Reply, Status};
+use std::fmt;
 
-// What the rounds came to.
+// How an applet is run: by the lines of a script, or by so many rounds.
 #[derive(Clone, Copy)]
+pub(crate) enum Course<'a> {
+    Script(&'a str),
+    Rounds(u32),
+}
+
+// What a line of a script comes to.
+#[derive(Drop)]
+pub enum Said {
+    Step(Outcome),
+    Answered,
+}
+
+impl fmt::Display for Said {
+    fn fmt<W: fmt::Write>(&self, f: &mut fmt::Formatter<W>) -> fmt::Result {
+        match self {
+            Said::Step(Outcome::Moved) => f.write_str("moved"),
+            Said::Step(Outcome::Called(k, args)) => write!(f, "call {k}{}", Numbers(args)),
+            Said::Step(Outcome::Ended(reason)) => write!(f, "ended {}", reason.number()),
+            Said::Step(Outcome::Stop) => f.write_str("stop"),
+            Said::Answered => f.write_str("answered"),
+        }
+    }
+}
+
+// Carries out one line.
+fn line(rt: &HostRuntime, m: &mut Machine<'_>, act: Act) -> anyhow::Result<()> {
+    let said = match act {
+        Act::Step(t) => m.step(t).map(Said::Step),
+        Act::Answer(t, reply) => m.answer(t, reply).map(|()| Said::Answered),
+    };
+    match said {
+        Ok(said) => println!(rt; "{said}")?,
+        Err(r) => println!(rt; "refused {}", r.number())?,
+    }
+    Ok(())
+}
+
+// Carries out a script.
+fn script(rt: &HostRuntime, m: &mut Machine<'_>, text: &str) -> Result<(), Stop> {
+    for (i, l) in text.lines().enumerate() {
+        let words: Vec<&str> = l.split_whitespace().collect(rt.alloc())?;
+        let act = scripts::act(&words).ok_or(Stop::NoAct(i.saturating_add(1)))?;
+        line(rt, m, act)?;
+    }
+    Ok(())
+}
+
+// What rounds come to.
+#[derive(Clone, Copy, Default)]
 struct Counts {
     steps: u64,
     calls: u64,
     refusals: u64,
 }
 
-// Prints a call that was handed out.
-fn call(rt: &HostRuntime, k: u8, args: [i32; 4]) -> anyhow::Result<()> {
-    let [a, b, c, d] = args;
-    println!(rt; "call {k} {a} {b} {c} {d}")?;
-    Ok(())
-}
-
-// Prints why a thread ended.
-fn ended(rt: &HostRuntime, reason: Reason) -> anyhow::Result<()> {
-    let n = reason.number();
-    println!(rt; "ended {n}")?;
-    Ok(())
-}
-
-// Prints what a step says.
-fn outcome(rt: &HostRuntime, o: Outcome) -> anyhow::Result<()> {
-    match o {
-        Outcome::Moved => println!(rt; "moved")?,
-        Outcome::Called(k, args) => call(rt, k, args)?,
-        Outcome::Ended(reason) => ended(rt, reason)?,
-        Outcome::Stop => println!(rt; "stop")?,
-    }
-    Ok(())
-}
-
-// Carries out one line.
-fn line(rt: &HostRuntime, m: &mut Machine<'_>, l: RunLine) -> anyhow::Result<()> {
-    let refused = match l {
-        RunLine::Step(t) => match m.step(t) {
-            Ok(o) => return outcome(rt, o),
-            Err(r) => r,
-        },
-        RunLine::Answer(t, raised, v) => match m.answer(t, raised, v) {
-            Ok(()) => {
-                println!(rt; "answered")?;
-                return Ok(());
-            }
-            Err(r) => r,
-        },
-    };
-    let n = refused.number();
-    println!(rt; "refused {n}")?;
-    Ok(())
-}
-
-// Carries out a script. False if a line is none of the script's, of which standard error is told.
-pub(crate) fn script(rt: &HostRuntime, m: &mut Machine<'_>, text: &str) -> anyhow::Result<bool> {
-    for (i, l) in text.lines().enumerate() {
-        let Some(act) = scripts::run_line(rt.alloc(), l)? else {
-            let number = i.saturating_add(1);
-            eprintln!(rt; "station: line {number} of the script is no step and no answer")?;
-            return Ok(false);
+impl Counts {
+    // One step of a thread; a call is answered normally with 0. Whether the step worked.
+    fn turn(&mut self, m: &mut Machine<'_>, t: u8) -> bool {
+        let Ok(outcome) = m.step(t) else {
+            self.refusals = self.refusals.saturating_add(1);
+            return false;
         };
-        line(rt, m, act)?;
+        self.steps = self.steps.saturating_add(1);
+        if let Outcome::Called(_, _) = outcome {
+            self.calls = self.calls.saturating_add(1);
+            let _ = m.answer(t, Reply::Normal(0));
+        }
+        true
     }
-    Ok(true)
-}
 
-// One step of a thread; a call is answered normally with 0. Whether the step worked.
-fn turn(m: &mut Machine<'_>, t: u8, counts: &mut Counts) -> bool {
-    match m.step(t) {
-        Ok(Outcome::Called(_, _)) => {
-            counts.steps = counts.steps.saturating_add(1);
-            counts.calls = counts.calls.saturating_add(1);
-            let _ = m.answer(t, false, 0);
-            true
+    // One round: a step of each thread. Whether any of them worked.
+    fn round(&mut self, m: &mut Machine<'_>) -> bool {
+        let mut any = false;
+        for t in 0..m.state().many() {
+            any |= self.turn(m, t);
         }
-        Ok(_) => {
-            counts.steps = counts.steps.saturating_add(1);
-            true
-        }
-        Err(_) => {
-            counts.refusals = counts.refusals.saturating_add(1);
-            false
-        }
+        any
     }
-}
-
-// One round: a step of each thread. Whether any of them worked.
-fn round(m: &mut Machine<'_>, threads: u8, counts: &mut Counts) -> bool {
-    let mut any = false;
-    for t in 0..threads {
-        if turn(m, t, counts) {
-            any = true;
-        }
-    }
-    any
 }
 
 // Up to so many rounds, until none of the threads can go on; then how it went.
-pub(crate) fn rounds(
-    rt: &HostRuntime,
-    m: &mut Machine<'_>,
-    threads: u8,
-    n: u32,
-) -> anyhow::Result<()> {
-    let mut counts = Counts {
-        steps: 0,
-        calls: 0,
-        refusals: 0,
-    };
+fn rounds(rt: &HostRuntime, m: &mut Machine<'_>, n: u32) -> anyhow::Result<()> {
+    let mut counts = Counts::default();
     for _ in 0..n {
-        if !round(m, threads, &mut counts) {
+        if !counts.round(m) {
             break;
         }
     }
-    let steps = counts.steps;
-    let calls = counts.calls;
-    let refusals = counts.refusals;
+    let Counts {
+        steps,
+        calls,
+        refusals,
+    } = counts;
     println!(rt; "steps {steps}, calls {calls}, refusals {refusals}")?;
     Ok(())
 }
 
-// Where a thread stands, and its registers.
-fn thread(rt: &HostRuntime, s: &State, t: u8) -> anyhow::Result<()> {
-    let Some(p) = s.position(t) else {
-        return Ok(());
-    };
-    let status = match p.status {
+// A thread and where it stands.
+#[derive(Drop)]
+pub struct Standing {
+    thread: u8,
+    position: Position,
+}
+
+// The word for a status.
+fn status(s: Status) -> &'static str {
+    match s {
         Status::Ready => "ready",
         Status::Awaiting => "awaiting",
         Status::Ended => "ended",
-    };
-    let method = p.method;
-    let index = p.index;
-    let depth = p.depth.saturating_add(1);
-    print!(rt; "thread {t} {status} method {method} index {index} depth {depth} registers")?;
-    for v in p.registers {
-        print!(rt; " {v}")?;
     }
-    println!(rt; "")?;
-    Ok(())
+}
+
+impl fmt::Display for Standing {
+    fn fmt<W: fmt::Write>(&self, f: &mut fmt::Formatter<W>) -> fmt::Result {
+        let thread = self.thread;
+        let p = &self.position;
+        let status = status(p.status);
+        write!(
+            f,
+            "thread {thread} {status} method {} index {}",
+            p.method, p.index
+        )?;
+        let depth = p.depth.saturating_add(1);
+        write!(f, " depth {depth} registers{}", Numbers(&p.registers))
+    }
 }
 
 // The machine as it stands: its threads, the cells in use, the lock, and whether it has stopped.
-pub(crate) fn report(rt: &HostRuntime, s: &State, threads: u8, cells: u8) -> anyhow::Result<()> {
-    for t in 0..threads {
-        thread(rt, s, t)?;
+fn report(rt: &HostRuntime, s: &State, cells: usize) -> anyhow::Result<()> {
+    for thread in 0..s.many() {
+        if let Some(position) = s.position(thread) {
+            println!(rt; "{}", Standing { thread, position })?;
+        }
     }
-    print!(rt; "cells")?;
-    for i in 0..cells {
-        let v = s.cell(i).unwrap_or(0);
-        print!(rt; " {v}")?;
-    }
-    println!(rt; "")?;
+    println!(rt; "cells{}", Numbers(&s.cells[..cells.min(32)]))?;
     match s.lock_holder() {
         Some(t) => println!(rt; "lock held by thread {t}")?,
         None => println!(rt; "lock free")?,
@@ -167,5 +155,17 @@ pub(crate) fn report(rt: &HostRuntime, s: &State, threads: u8, cells: u8) -> any
         "not stopped"
     };
     println!(rt; "machine {stopped}")?;
+    Ok(())
+}
+
+// Runs an applet, and reports how its machine stands then.
+pub(crate) fn applet(rt: &HostRuntime, file: &[u8], course: Course<'_>) -> Result<(), Stop> {
+    let cells = Applet::read(file)?.starts();
+    let mut m = Machine::load(file)?;
+    match course {
+        Course::Script(text) => script(rt, &mut m, text)?,
+        Course::Rounds(n) => rounds(rt, &mut m, n)?,
+    }
+    report(rt, m.state(), cells)?;
     Ok(())
 }

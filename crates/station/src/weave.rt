@@ -1,32 +1,17 @@
 // The report of a weaving.
+use crate::code::Words;
 use applet::Applet;
 
-// How many instructions and how many LOCKs, of which each site has one, a method's code has.
-fn counts(code: &[u8]) -> (usize, usize) {
-    let mut sites = 0usize;
-    for word in code.chunks(4) {
-        if let [0x20, ..] = word {
-            sites = sites.saturating_add(1);
-        }
-    }
-    (code.len() / 4, sites)
+// How many sites a method's code has, each of which has one LOCK.
+fn sites(code: &[u8]) -> usize {
+    Words(code).filter(|word| word.op == 0x20).count()
 }
 
 // One method: instructions before and after, and the number of sites.
-fn method(
-    rt: &HostRuntime,
-    plain: &Applet<'_>,
-    woven: &Applet<'_>,
-    m: usize,
-) -> anyhow::Result<()> {
-    let Some(before) = plain.code(m) else {
-        return Ok(());
-    };
-    let Some(after) = woven.code(m) else {
-        return Ok(());
-    };
-    let (was, _) = counts(before);
-    let (is, sites) = counts(after);
+fn method(rt: &HostRuntime, m: usize, plain: &[u8], woven: &[u8]) -> anyhow::Result<()> {
+    let was = plain.len() / 4;
+    let is = woven.len() / 4;
+    let sites = sites(woven);
     println!(rt; "method {m}: {was} instructions, woven {is}, sites {sites}")?;
     Ok(())
 }
@@ -42,11 +27,12 @@ pub(crate) fn report(rt: &HostRuntime, plain: &[u8], woven: &[u8]) -> anyhow::Re
     let after = woven.len();
     let percent = growth(before, after);
     println!(rt; "bytes {before}, woven {after}, growth {percent} percent")?;
-    if let Ok(p) = Applet::read(plain) {
-        if let Ok(w) = Applet::read(woven) {
-            for m in 0..p.methods() as usize {
-                method(rt, &p, &w, m)?;
-            }
+    let (Ok(plain), Ok(woven)) = (Applet::read(plain), Applet::read(woven)) else {
+        return Ok(());
+    };
+    for m in 0..usize::from(plain.methods()) {
+        if let (Some(p), Some(w)) = (plain.code(m), woven.code(m)) {
+            method(rt, m, p, w)?;
         }
     }
     Ok(())

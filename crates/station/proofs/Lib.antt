@@ -1,0 +1,2 @@
+-- policies of whichever kind, from their files
+pub mod Held
