@@ -1,10 +1,21 @@
 -- One turn more of the loops that count.
-use Rattle.std.proofs.Common.{◌≡◌, ℕ, ◌+◌, Bool, List, ℤ, add-one}
-use Rattle.model.specs.Policy.{Automaton, Event}
+use Rattle.std.proofs.Common.{◌≡◌, ℕ, ◌+◌, ◌≤◌, Bool, true, false, List, ℤ, refl, add-one, arith}
+use mir.Val.{bool_byte}
+use Rattle.model.specs.declared.Event.{Event}
+use Rattle.model.specs.Policy.{Automaton}
 use Rattle.model.specs.Calls.{row_after, step_answer}
 use Rattle.model.specs.Machine.{Applet, Machine, step}
 use Rattle.policy.specs.Calls.{is_taken}
 use Rattle.bench_calls.specs.Counts.{one_if, rows, takes, worked, served, next_of, turn_of, turned, works}
+
+-- what a Bool counts
+pub byte : (b : Bool) → bool_byte b ≡ one_if b
+byte true = refl
+byte false = refl
+
+pub small : (b : Bool) → bool_byte b ≤ 1
+small true = omega arith
+small false = omega arith
 
 module _ (A : Automaton) (e : Event) (row here : List ℤ) (i : ℕ) where
   pub rows_more : (there : List ℤ) → here ≡ rows A e row i → there ≡ row_after A e here → there ≡ rows A e row (i + 1)

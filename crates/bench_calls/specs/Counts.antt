@@ -2,7 +2,8 @@
 use Rattle.std.specs.Prelude.{ℕ, zero, suc, ◌+◌, Bool, true, false, cond, List, [], ◌∷◌, ℤ, pos, Ok, Err, nat_lt}
 use Rattle.model.specs.declared.Moment.{Moment}
 use Rattle.model.specs.declared.Outcome.{Outcome}
-use Rattle.model.specs.Policy.{Automaton, Event}
+use Rattle.model.specs.declared.Event.{Event}
+use Rattle.model.specs.Policy.{Automaton}
 use Rattle.model.specs.Calls.{row_after, step_answer, starts_row}
 use Rattle.model.specs.Machine.{Applet, Machine, Stepped, step, answer, zeros}
 use Rattle.model.specs.Runs.{after}

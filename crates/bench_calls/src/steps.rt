@@ -7,19 +7,12 @@ ghost use Rattle.model.specs.Rules.{rules_in, rules_automaton};
 ghost use Rattle.model.specs.Kinds.{pair_automaton};
 ghost use Rattle.policy.specs.Calls.{is_taken};
 ghost use Rattle.machine.specs.Machines.{program, holds_now};
-ghost use Rattle.bench_calls.specs.Counts.{one_if, before_call, takes_of, worked, served, next_of, works as works_in, works_of};
+ghost use Rattle.bench_calls.specs.Counts.{before_call, takes_of, worked, served, next_of, works as works_in, works_of};
 
 use machine::Machine;
-use model::{Moment, Outcome, Verdict};
+use model::{Event, Moment, Outcome, Reply, Verdict};
 use policy::{Pair, Policy};
 use rules::Rules;
-
-fn one_if(b: bool) -> u32
-    ensures value { result ≡ one_if b }
-    ensures small { result ≤ 1 }
-{
-    if b { 1 } else { 0 }
-}
 
 // The thread behind a thread, of those up to the last one.
 fn next_of(thread: u8, last: u8) -> u8
@@ -33,10 +26,13 @@ fn takes<P: Policy>(p: &P, call: u8, a0: i32, row: &mut [i32; 32]) -> bool
     ensures value { result ≡ is_taken (step_answer (P.meaning p.now) (before_call call a0) row.old) }
     ensures row { row.new ≡ row_after (P.meaning p.now) (before_call call a0) row.old }
 {
-    match p.step(Moment::Before, call, &[a0, 0, 0, 0], 0, row) {
-        Ok(Verdict::Taken) => true,
-        _ => false,
-    }
+    let event = Event {
+        moment: Moment::Before,
+        call,
+        args: [a0, 0, 0, 0],
+        answer: 0,
+    };
+    p.step(&event, row) == Ok(Verdict::Taken)
 }
 
 // Steps a policy's row by the same before event so many times, and answers how many were taken.
@@ -47,8 +43,8 @@ fn taken<P: Policy>(p: &P, call: u8, a0: i32, times: u32) -> u32
     let mut row = [0i32; 32];
     let _ = p.starts(&mut row);
     let mut n = 0;
-    for i in 0..times {
-        n += one_if(takes(p, call, a0, &mut row));
+    for _ in 0..times {
+        n += u32::from(takes(p, call, a0, &mut row));
     }
     n
 }
@@ -90,7 +86,7 @@ fn works(m: &mut Machine<'_>, thread: u8) -> bool
 {
     match m.step(thread) {
         Ok(Outcome::Called(_, _)) => {
-            let _ = m.answer(thread, false, 0);
+            let _ = m.answer(thread, Reply::Normal(0));
             true
         }
         Ok(_) => true,
@@ -106,8 +102,8 @@ fn worked_steps(m: &mut Machine<'_>, last: u8, steps: u32) -> u64
 {
     let mut n = 0;
     let mut thread = 0;
-    for i in 0..steps {
-        n += one_if(works(m, thread)) as u64;
+    for _ in 0..steps {
+        n += u64::from(works(m, thread));
         thread = next_of(thread, last);
     }
     n
@@ -128,8 +124,8 @@ pub extern "C" fn station_run_in_turn(applet: &[u8], last: u8, steps: u32) -> u6
     ensures value { result ≡ works_of (load_file applet.now) last steps }
     ensures most { result ≤ steps }
 {
-    match Machine::load(applet) {
-        Ok(mut m) => worked_steps(&mut m, last, steps),
-        Err(_) => 0,
-    }
+    let Ok(mut m) = Machine::load(applet) else {
+        return 0;
+    };
+    worked_steps(&mut m, last, steps)
 }

@@ -2,11 +2,13 @@
 ghost use Rattle.std.specs.Prelude.{◌≡◌};
 ghost use Rattle.bench_calls.specs.Answers.{number_of, place_of, length_of, rules_weave, rules_area};
 
+use crate::Reading;
 use model::Refusal;
 use rules::Rules;
 use weaver::weave;
 
-// A refusal's number and place, both 0 where the file was woven, and the woven file's length.
+// A refusal's number and place, both 0 where the file was woven, and the woven file's length; flat, as
+// C reads it.
 #[repr(C)]
 #[derive(Clone, Copy)]
 pub struct Weaving {
@@ -31,16 +33,12 @@ pub extern "C" fn station_weave(policy: &[u8], plain: &[u8], area: &mut [u8]) ->
     ensures length { result.length ≡ length_of (rules_weave policy.now plain.now area.old) }
     ensures area { area.new ≡ rules_area policy.now plain.now area.old }
 {
-    match weave_rules(policy, plain, area) {
-        Ok(n) => Weaving {
-            number: 0,
-            place: 0,
-            length: n as u64,
-        },
-        Err(r) => Weaving {
-            number: r.number() as u32,
-            place: r.place() as u64,
-            length: 0,
-        },
+    let woven = weave_rules(policy, plain, area);
+    let Reading { number, place } = Reading::of(&woven);
+    let length = woven.unwrap_or(0);
+    Weaving {
+        number,
+        place,
+        length: length as u64,
     }
 }

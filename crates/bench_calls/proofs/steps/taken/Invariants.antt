@@ -2,7 +2,7 @@ use Rattle.std.proofs.Common.{◌≡◌, ◌≤◌}
 use Rattle.bench_calls.specs.Counts.{before_call, rows, takes}
 use Rattle.bench_calls.proofs.steps.taken.Given as goal
 
-abbrev pub invariant-loop-i : goal.invariant-loop-i
-invariant-loop-i g l =
+abbrev pub invariant-loop : goal.invariant-loop
+invariant-loop g l =
     let A = g.P.Policy.meaning l.p in
-    (l.n ≤ l.i) × (l.n ≡ takes A (before_call l.call l.a0) l.initial.row l.i) × (l.row ≡ rows A (before_call l.call l.a0) l.initial.row l.i)
+    (l.n ≤ l.counter) × (l.n ≡ takes A (before_call l.call l.a0) l.initial.row l.counter) × (l.row ≡ rows A (before_call l.call l.a0) l.initial.row l.counter)

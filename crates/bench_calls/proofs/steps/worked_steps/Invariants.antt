@@ -3,8 +3,8 @@ use Rattle.machine.specs.Machines.{program, holds_now}
 use Rattle.bench_calls.specs.Counts.{turn_of, turned, works}
 use Rattle.bench_calls.proofs.steps.worked_steps.Given as goal
 
-abbrev pub invariant-loop-i : goal.invariant-loop-i
-invariant-loop-i l =
+abbrev pub invariant-loop : goal.invariant-loop
+invariant-loop l =
     let p = program l.initial.m in
     let m = holds_now l.initial.m in
-    (l.n ≤ l.i) × (l.thread ≡ turn_of l.last l.i) × (program l.m ≡ p) × (holds_now l.m ≡ turned p m l.last l.i) × (l.n ≡ works p m l.last l.i)
+    (l.n ≤ l.counter) × (l.thread ≡ turn_of l.last l.counter) × (program l.m ≡ p) × (holds_now l.m ≡ turned p m l.last l.counter) × (l.n ≡ works p m l.last l.counter)

@@ -1,18 +1,20 @@
-use Rattle.std.proofs.Common.{ap, ◌∙◌}
+use Rattle.std.proofs.Common.{◌≡◌, ℕ, Ok, Err, refl, ap, ◌∙◌}
+use Rattle.std.specs.Result.{result_unwrap_or}
+use Rattle.model.specs.Fields.{Read}
 use Rattle.bench_calls.specs.Answers.{number_of, place_of, length_of}
 use Rattle.bench_calls.proofs.weaves.station_weave.Goals as goal
 
-pub returns-in-Ok : goal.returns-in-Ok
-returns-in-Ok c =
-    let e = c.in-Ok.ensures in
-    record { number = ap number_of e.answer; place = ap place_of e.answer; length = ap length_of e.answer; area = e.area }
+long : (r : Read ℕ) → result_unwrap_or r 0 ≡ length_of r
+long (Ok n) = refl
+long (Err e) = refl
 
-pub returns-in-Err : goal.returns-in-Err
-returns-in-Err c =
-    let e = c.in-Err.ensures in
+pub returns : goal.returns
+returns c =
+    let e = c.weave_rules-woven.ensures in
+    let w = c.weave_rules-woven.result in
     record {
-      number = c.number.ensures ∙ ap number_of e.answer;
-      place = c.place.ensures ∙ ap place_of e.answer;
-      length = ap length_of e.answer;
+      number = c.of-number.ensures.number ∙ ap number_of e.answer;
+      place = c.of-number.ensures.place ∙ ap place_of e.answer;
+      length = c.unwrap_or-length.ensures ∙ long w ∙ ap length_of e.answer;
       area = e.area;
     }
