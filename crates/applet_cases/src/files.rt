@@ -1,12 +1,5 @@
 // Files for the tests, and what a reading of them answers.
-use applet::Applet;
 use std::alloc::{AllocError, Global};
-
-// One method and one thread: SET r0 7, HOST 5 with target 2, END. The head stands at 0, the threads at
-// 5, the cells at 9 and the method at 12, its instructions at 15, 19 and 23.
-pub(crate) const A: &'static [u8; 27] =
-    b"\x01\x00\x02\x01\x01\x02\x00\x01\x00\x03\x00\x00\x04\x00\x0c\
-      \x01\x00\x00\x07\x0d\x05\x00\x02\x0e\x00\x00\x00";
 
 // Two threads, which start in the methods 2 and 0, two cells, 7 and -2, and three methods: SET r0 7 and
 // RET; END; CALL 1, SKIP 0 and JUMP 0. The fields stand at 0, 5, 10, 21, 32 and 39, the instructions at
@@ -21,34 +14,15 @@ pub(crate) const END: &'static [u8; 4] = b"\x0e\x00\x00\x00";
 
 pub(crate) const METHOD: &'static [u8; 7] = b"\x04\x00\x04\x0e\x00\x00\x00";
 
-// A refusal's number and place, zeros where the file reads.
-pub(crate) fn answer(file: &[u8]) -> (u8, usize) {
-    match Applet::read(file) {
-        Ok(_) => (0, 0),
-        Err(r) => (r.number(), r.place()),
-    }
-}
-
 // A file with some of its bytes changed: in turn an offset and its new byte.
 pub(crate) fn changed<const N: usize>(file: &[u8; N], changes: &[u8]) -> [u8; N] {
     let mut file = *file;
-    for c in changes.chunks_exact(2) {
-        let at = usize::from(c[0]);
-        if at < N {
-            file[at] = c[1];
+    let (pairs, _) = changes.as_chunks::<2>();
+    for [at, new] in pairs {
+        if let Some(byte) = file.get_mut(usize::from(*at)) {
+            *byte = *new;
         }
     }
-    file
-}
-
-// A with another instruction at index 0.
-pub(crate) fn led_by(op: u8, x: u8, y: u16) -> [u8; 27] {
-    let mut file = *A;
-    let [high, low] = y.to_be_bytes();
-    file[15] = op;
-    file[16] = x;
-    file[17] = high;
-    file[18] = low;
     file
 }
 
@@ -82,7 +56,7 @@ pub(crate) fn longest(heap: Global) -> Result<Vec<u8>, AllocError> {
         b"\x01\x00\x02\x01\x04\x02\x00\x08\x00\x01\x02\x03\x03\x02\x01\x00\x03\x00\x00".to_vec(
             heap,
         )?;
-    for _ in 0..4u8 {
+    for _ in 0..4 {
         put(&mut file, 1, b"\x04\x3f\xf8")?;
         put(&mut file, 4094, END)?;
     }

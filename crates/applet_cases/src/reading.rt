@@ -1,6 +1,7 @@
 // Fields, limits, places, and what an applet shows of its file.
-use crate::files::{A, B, END, METHOD, answer, built, changed, longest};
+use crate::files::{B, END, METHOD, built, changed, longest};
 use applet::Applet;
+use applet_tests::{A, answer};
 use std::process::Abort;
 use std::test::Fail;
 use tlv::{Fields, Part};
@@ -13,11 +14,11 @@ const CUTS: &'static [(usize, usize, usize)] = &[(0, 5, 0), (5, 9, 5), (9, 12, 9
 fn truncations(rt: HostRuntime) {
     for (from, below, place) in CUTS {
         for n in *from..*below {
-            let part = A.get(..n).unwrap_or(A);
+            let part = A.get(..n).unwrap_or(&A);
             assert_eq!(rt; answer(part), (10, *place));
         }
     }
-    assert_eq!(rt; answer(A), (0, 0));
+    assert_eq!(rt; answer(&A), (0, 0));
 }
 
 // Changed bytes of A, in turn an offset and its new byte, and the refusal.
@@ -115,7 +116,7 @@ fn changes<const N: usize>(rt: &impl Abort, file: &[u8; N], cases: &[(&[u8], u8,
 
 #[test]
 fn changed_files(rt: HostRuntime) {
-    changes(&rt, A, CHANGES_OF_A);
+    changes(&rt, &A, CHANGES_OF_A);
     changes(&rt, B, CHANGES_OF_B);
 }
 
@@ -285,8 +286,8 @@ const BUILT: &'static [(
     (SIZE_4096, 4095, END, 1, b"\x0c\x00\x00\x00", 0, 0),
     (SIZE_4096, 4095, END, 1, b"\x0d\x00\x00\x00", 13, 16395),
     // 65,535 bytes with something left over behind A, and one byte more
-    (A, 65508, b"\x00", 0, b"", 10, 27),
-    (A, 65509, b"\x00", 0, b"", 10, 0),
+    (&A, 65508, b"\x00", 0, b"", 10, 27),
+    (&A, 65509, b"\x00", 0, b"", 10, 0),
 ];
 
 #[test]
@@ -373,11 +374,9 @@ fn fields(rt: HostRuntime) -> Result<(), Fail> {
     }
     assert!(rt; fields.ended());
     assert!(rt; matches!(fields.next(), Ok(None)));
-    match fields.due(Part::METHOD) {
-        Ok(_) => Err(Fail::new("a field behind the last one")),
-        Err(e) => {
-            assert_eq!(rt; e.place, 54);
-            Ok(())
-        },
-    }
+    let Err(e) = fields.due(Part::METHOD) else {
+        return Err(Fail::new("a field behind the last one"));
+    };
+    assert_eq!(rt; e.place, 54);
+    Ok(())
 }

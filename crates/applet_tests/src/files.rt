@@ -1,35 +1,16 @@
 // Files for the tests, and what a reading of them answers.
-use applet::Applet;
+use crate::A;
 use std::alloc::{AllocError, Global};
-
-// One method and one thread: SET r0 7, HOST 5 with target 2, END.
-pub const A: [u8; 27] = [
-    1, 0, 2, 1, 1, 2, 0, 1, 0, 3, 0, 0, 4, 0, 12, 1, 0, 0, 7, 13, 5, 0, 2, 14, 0, 0, 0,
-];
-
-// A refusal's number and place, zeros where the file reads.
-pub(crate) fn answer(file: &[u8]) -> (u8, usize) {
-    match Applet::read(file) {
-        Ok(_) => (0, 0),
-        Err(r) => (r.number(), r.place()),
-    }
-}
 
 // A with some of its bytes changed.
 pub(crate) fn changed(changes: &[(usize, u8)]) -> [u8; 27] {
     let mut file = A;
-    for c in changes {
-        if c.0 < 27 {
-            file[c.0] = c.1;
+    for (at, new) in changes {
+        if let Some(byte) = file.get_mut(*at) {
+            *byte = *new;
         }
     }
     file
-}
-
-// A with another instruction at index 0.
-pub(crate) fn led_by(op: u8, x: u8, y: u16) -> [u8; 27] {
-    let [high, low] = y.to_be_bytes();
-    changed(&[(15, op), (16, x), (17, high), (18, low)])
 }
 
 // A with its method cut to one instruction.
@@ -42,10 +23,8 @@ pub(crate) fn only(op: u8, x: u8, y: u16) -> [u8; 19] {
 
 // A tag and a length.
 fn begin(file: &mut Vec<u8>, tag: u8, length: usize) -> Result<(), AllocError> {
-    file.push(tag)?;
-    file.push((length / 256 % 256) as u8)?;
-    file.push((length % 256) as u8)?;
-    Ok(())
+    let [.., high, low] = length.to_be_bytes();
+    file.extend_from_slice(&[tag, high, low])
 }
 
 // One method of so many ENDs.

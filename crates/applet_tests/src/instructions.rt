@@ -1,36 +1,7 @@
 // Opcodes with their operands, landings, and instructions in four bytes.
-use crate::files::{answer, led_by, only};
-use model::{Instr, Operator, Own, Test};
+use crate::files::only;
+use crate::{INSTRUCTIONS, LIMITS, answer, led_by};
 use opcodes::{Word, decode, encode, look_up};
-
-// Each opcode, the largest x, the largest y at index 0 of three instructions in the one method of an
-// applet, and how a larger y is refused: 0 if there is none.
-const LIMITS: [(u8, u8, u16, u8); 24] = [
-    (0x01, 7, 65535, 0),
-    (0x02, 7, 7, 12),
-    (0x03, 7, 7, 12),
-    (0x04, 7, 7, 12),
-    (0x05, 7, 7, 12),
-    (0x06, 7, 7, 12),
-    (0x07, 7, 63, 12),
-    (0x08, 7, 63, 12),
-    (0x09, 0, 2, 13),
-    (0x0a, 7, 2, 13),
-    (0x0b, 0, 0, 12),
-    (0x0c, 0, 0, 12),
-    (0x0d, 63, 2, 13),
-    (0x0e, 0, 0, 12),
-    (0x20, 63, 0, 12),
-    (0x21, 0, 0, 12),
-    (0x22, 0, 1, 13),
-    (0x23, 7, 1, 13),
-    (0x24, 0, 0, 12),
-    (0x25, 7, 65535, 0),
-    (0x26, 7, 31, 12),
-    (0x27, 7, 4, 12),
-    (0x28, 7, 31, 12),
-    (0x29, 6, 5, 12),
-];
 
 #[test]
 fn operands(rt: HostRuntime) {
@@ -51,7 +22,7 @@ fn operands(rt: HostRuntime) {
 #[test]
 fn opcodes(rt: HostRuntime) {
     for op in 0..=255u8 {
-        let known = (1 <= op && op <= 14) || (32 <= op && op <= 41);
+        let known = matches!(op, 1..=14 | 32..=41);
         assert_eq!(rt; look_up(op).is_some(), known);
         if !known {
             assert_eq!(rt; answer(&led_by(op, 0, 0)), (12, 15));
@@ -63,46 +34,15 @@ fn opcodes(rt: HostRuntime) {
 #[test]
 fn last_instructions(rt: HostRuntime) {
     for (op, x, _, _) in LIMITS {
-        let number = if op == 0x09 || op == 0x0c || op == 0x0e {
-            0
-        } else {
-            13
+        let expected = match op {
+            0x09 | 0x0c | 0x0e => (0, 0),
+            _ => (13, 15),
         };
-        let place = if number == 0 { 0 } else { 15 };
-        assert_eq!(rt; answer(&only(op, 0, 0)), (number, place));
+        assert_eq!(rt; answer(&only(op, 0, 0)), expected);
         assert_eq!(rt; answer(&only(op, x.saturating_add(1), 0)), (12, 15));
     }
     assert_eq!(rt; answer(&only(0x09, 0, 1)), (13, 15));
 }
-
-// Every opcode with its operands at their limits, in an applet of 32 methods.
-const INSTRUCTIONS: [(Instr, [u8; 4]); 25] = [
-    (Instr::Own(Own::Set(7, -32768)), [0x01, 7, 0x80, 0]),
-    (Instr::Own(Own::Set(0, 32767)), [0x01, 0, 0x7f, 255]),
-    (Instr::Own(Own::Mov(7, 6)), [0x02, 7, 0, 6]),
-    (Instr::Own(Own::Add(6, 7)), [0x03, 6, 0, 7]),
-    (Instr::Own(Own::Sub(7, 0)), [0x04, 7, 0, 0]),
-    (Instr::Own(Own::Lt(0, 7)), [0x05, 0, 0, 7]),
-    (Instr::Own(Own::Eq(7, 1)), [0x06, 7, 0, 1]),
-    (Instr::Own(Own::Get(7, 63)), [0x07, 7, 0, 63]),
-    (Instr::Own(Own::Put(1, 63)), [0x08, 1, 0, 63]),
-    (Instr::Own(Own::Jump(65535)), [0x09, 0, 255, 255]),
-    (Instr::Own(Own::Brz(7, 258)), [0x0a, 7, 1, 2]),
-    (Instr::Own(Own::Call(31)), [0x0b, 0, 0, 31]),
-    (Instr::Own(Own::Ret), [0x0c, 0, 0, 0]),
-    (Instr::Own(Own::Host(63, 4095)), [0x0d, 63, 15, 255]),
-    (Instr::Own(Own::End), [0x0e, 0, 0, 0]),
-    (Instr::Lock(63), [0x20, 63, 0, 0]),
-    (Instr::Unlock, [0x21, 0, 0, 0]),
-    (Instr::Test(Test::Skip(65535)), [0x22, 0, 255, 255]),
-    (Instr::Test(Test::Skz(7, 256)), [0x23, 7, 1, 0]),
-    (Instr::Test(Test::Viol), [0x24, 0, 0, 0]),
-    (Instr::Test(Test::Mset(7, -1)), [0x25, 7, 255, 255]),
-    (Instr::Test(Test::Mcell(7, 31)), [0x26, 7, 0, 31]),
-    (Instr::Test(Test::Marg(7, 4)), [0x27, 7, 0, 4]),
-    (Instr::Test(Test::Store(6, 31)), [0x28, 6, 0, 31]),
-    (Instr::Test(Test::Op(6, Operator::Either)), [0x29, 6, 0, 5]),
-];
 
 #[test]
 fn four_bytes(rt: HostRuntime) {

@@ -8,3 +8,6 @@ mod files;
 mod instructions;
 #[cfg(test)]
 mod reading;
+mod shared;
+
+pub use shared::{A, INSTRUCTIONS, LIMITS, answer, led_by};

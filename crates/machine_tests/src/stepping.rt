@@ -1,7 +1,8 @@
 // Steps and answers, one script for each applet.
 use crate::applets::*;
 use crate::scripts::{Line, follow};
-use machine::{Act, Machine, Seen, State};
+use machine::{Act, Machine, Seen};
+use model::{Refusal, Reply};
 use std::test::Fail;
 
 // A woven with P, in which SET r0 7 stands at 19.
@@ -19,7 +20,7 @@ const TAKEN: [Line; 9] = [
     Line::Calls(0, 5, [7, 0, 0, 0]),
     Line::Refused(0, 4),
     Line::Cell(0, 7),
-    Line::Answer(0, false, 20),
+    Line::Answer(0, Reply::Normal(20)),
     Line::Argument(4, 20),
     Line::Moves(0, 2),
     Line::At(0, 0, 17, 0),
@@ -86,27 +87,27 @@ const OWN: [[u8; 4]; 39] = [
 const OWN_SCRIPT: [Line; 26] = [
     Line::NoAnswer(0, 3),
     Line::Calls(0, 1, [0, 0, 0, 0]),
-    Line::Answer(0, false, 2147483647),
+    Line::Answer(0, Reply::Normal(2147483647)),
     Line::Moves(0, 5),
     Line::Calls(0, 63, [2147483647, -2147483648, 1, 2147483647]),
-    Line::Answer(0, false, -1),
+    Line::Answer(0, Reply::Normal(-1)),
     // -32,768 < 32,767; not 32,767 < -32,768; not -1 < -32,768
     Line::Moves(0, 8),
     Line::Calls(0, 0, [-1, 1, 0, 0]),
-    Line::Answer(0, false, -32768),
+    Line::Answer(0, Reply::Normal(-32768)),
     Line::Moves(0, 7),
     Line::Calls(0, 5, [1, 0, 1, 0]),
-    Line::Answer(0, false, 77),
+    Line::Answer(0, Reply::Normal(77)),
     Line::Moves(0, 5),
     Line::Shared(0, 77),
     Line::Shared(63, -32768),
     Line::Calls(0, 5, [77, -32768, 77, 0]),
-    Line::Answer(0, false, 0),
+    Line::Answer(0, Reply::Normal(0)),
     Line::Moves(0, 1),
     Line::At(0, 0, 32, 0),
     Line::Moves(0, 2),
     Line::Calls(0, 5, [0, -32768, 77, 0]),
-    Line::Answer(0, true, 4),
+    Line::Answer(0, Reply::Raised(4)),
     Line::At(0, 0, 37, 0),
     Line::Register(0, 0, 4),
     Line::Ends(0, 0),
@@ -169,7 +170,7 @@ const BLOCK_SCRIPT: [Line; 34] = [
     Line::Scratch(0, -7),
     Line::Scratch(7, 9),
     Line::Calls(0, 5, [-7, 0, 0, 9]),
-    Line::Answer(0, false, 1234567),
+    Line::Answer(0, Reply::Normal(1234567)),
     Line::Moves(0, 2),
     Line::Scratch(1, 1234567),
     Line::Free,
@@ -325,12 +326,12 @@ const LOCKS_SCRIPT: [Line; 45] = [
     // answers without the lock leave a4 as it is
     Line::Calls(3, 9, [0, 0, 0, 0]),
     Line::Refused(3, 4),
-    Line::Answer(3, false, 100),
+    Line::Answer(3, Reply::Normal(100)),
     Line::At(3, 3, 1, 0),
     Line::Register(3, 0, 100),
     Line::Argument(4, 0),
     Line::Calls(3, 9, [100, 0, 0, 0]),
-    Line::Answer(3, true, -100),
+    Line::Answer(3, Reply::Raised(-100)),
     Line::At(3, 3, 0, 0),
     Line::Register(3, 0, -100),
     Line::Argument(4, 0),
@@ -338,7 +339,7 @@ const LOCKS_SCRIPT: [Line; 45] = [
     Line::Calls(0, 3, [5, 0, 0, 0]),
     Line::Refused(0, 4),
     Line::Refused(1, 7),
-    Line::Answer(0, false, 200),
+    Line::Answer(0, Reply::Normal(200)),
     Line::Register(0, 0, 200),
     Line::Argument(4, 200),
     Line::Moves(0, 1),
@@ -351,7 +352,7 @@ const LOCKS_SCRIPT: [Line; 45] = [
     Line::Argument(4, 200),
     Line::Ends(0, 2),
     Line::Calls(1, 7, [0, 6, 0, 0]),
-    Line::Answer(1, true, -1),
+    Line::Answer(1, Reply::Raised(-1)),
     Line::Argument(4, -1),
     // LOCK by its holder
     Line::Refused(1, 7),
@@ -419,11 +420,8 @@ fn scripts(rt: HostRuntime) -> Result<(), Fail> {
 }
 
 // The refusal of a file, its number and place.
-fn refusal(file: &[u8]) -> (u8, usize) {
-    match Machine::load(file) {
-        Ok(_) => (0, 0),
-        Err(e) => (e.number(), e.place()),
-    }
+fn refusal(file: &[u8]) -> Option<(u8, usize)> {
+    Machine::load(file).err().map(|e| (e.number(), e.place()))
 }
 
 // The example of the documents, the same without its last byte, where the field of the method at 16
@@ -431,54 +429,37 @@ fn refusal(file: &[u8]) -> (u8, usize) {
 #[test]
 fn example(rt: HostRuntime) -> Result<(), Fail> {
     follow(&rt, WOVEN, &TAKEN)?;
-    assert_eq!(rt; refusal(&WOVEN[..90]), (10, 16));
+    assert_eq!(rt; refusal(&WOVEN[..90]), Some((10, 16)));
     let mut ten = *WOVEN;
     ten[22] = 10;
     follow(&rt, &ten, &STOPPED)
 }
 
-// What was seen, in numbers: the thread, the call, 255 for an answer, whether that is raised, and the
-// arguments, or the value in the first place.
-fn numbers(s: Seen) -> (u8, u8, bool, [i32; 4]) {
-    match s {
-        Seen::Call(t, k, a) => (t, k, false, a),
-        Seen::Reply(t, raised, v) => (t, 255, raised, [v, 0, 0, 0]),
-    }
-}
-
-// The index at which the first thread stands.
-fn index_of(s: &State) -> Option<u32> {
-    match s.position(0) {
-        Some(p) => Some(p.index),
-        None => None,
-    }
-}
-
-// Carries out acts on the woven applet: the number of the refusal, how much was seen, and where the
-// thread stands then.
-fn ran(acts: &[Act], seen: &mut [Seen]) -> (u8, usize, Option<u32>) {
-    match Machine::load(WOVEN) {
-        Ok(mut m) => match m.run(acts, seen) {
-            Ok(n) => (0, n, index_of(m.state())),
-            Err(e) => (e.number(), 0, index_of(m.state())),
-        },
-        Err(e) => (e.number(), 0, None),
-    }
+// Carries out acts on the woven applet: what that says, and where the thread stands then.
+fn ran(acts: &[Act], seen: &mut [Seen]) -> Result<(Result<usize, Refusal>, Option<u32>), Refusal> {
+    let mut m = Machine::load(WOVEN)?;
+    let said = m.run(acts, seen);
+    Ok((said, m.state().index(0)))
 }
 
 // Twelve steps, one that is refused, and two answers, of which one works; and too short an area, with
 // which nothing happens.
 #[test]
-fn acts(rt: HostRuntime) {
+fn acts(rt: HostRuntime) -> Result<(), Fail> {
     let mut acts = [Act::Step(0); 15];
-    acts[13] = Act::Answer(0, true, -5);
-    acts[14] = Act::Answer(0, false, 6);
-    let mut short = [Seen::Reply(9, false, 9); 14];
-    assert_eq!(rt; ran(&acts, &mut short), (1, 0, Some(0)));
-    assert_eq!(rt; numbers(short[0]), (9, 255, false, [9, 0, 0, 0]));
-    let mut seen = [Seen::Reply(9, false, 9); 15];
-    assert_eq!(rt; ran(&acts, &mut seen), (0, 2, Some(15)));
-    assert_eq!(rt; numbers(seen[0]), (0, 5, false, [7, 0, 0, 0]));
-    assert_eq!(rt; numbers(seen[1]), (0, 255, true, [-5, 0, 0, 0]));
-    assert_eq!(rt; numbers(seen[2]), (9, 255, false, [9, 0, 0, 0]));
+    acts[13] = Act::Answer(0, Reply::Raised(-5));
+    acts[14] = Act::Answer(0, Reply::Normal(6));
+    let untouched = Seen::Reply(9, Reply::Normal(9));
+    let mut short = [untouched; 14];
+    assert_eq!(rt;
+        ran(&acts, &mut short)?,
+        (Err(Refusal::AreaTooShort), Some(0))
+    );
+    assert_eq!(rt; short[0], untouched);
+    let mut seen = [untouched; 15];
+    assert_eq!(rt; ran(&acts, &mut seen)?, (Ok(2), Some(15)));
+    assert_eq!(rt; seen[0], Seen::Call(0, 5, [7, 0, 0, 0]));
+    assert_eq!(rt; seen[1], Seen::Reply(0, Reply::Raised(-5)));
+    assert_eq!(rt; seen[2], untouched);
+    Ok(())
 }

@@ -1,6 +1,6 @@
 // What any policy answers to the calls on it, by tables of cases.
 use crate::files::fault;
-use model::{Moment, Refusal, Verdict};
+use model::{Event, Moment, Refusal, Verdict};
 use policy::{Policy, limits};
 use std::alloc::Global;
 use std::process::Abort;
@@ -77,7 +77,13 @@ pub(crate) fn same(rt: &impl Abort, got: Says, says: Says, row: &[i32], after: &
 fn steps<Q: Policy>(rt: &impl Abort, heap: Global, p: &Q, cases: &[Step]) -> Result<(), Fail> {
     for (moment, call, args, answer, row, says, after) in cases {
         let mut cells = row.to_vec(heap)?;
-        let got = p.step(*moment, *call, args, *answer, cells.as_mut_slice());
+        let event = Event {
+            moment: *moment,
+            call: *call,
+            args: *args,
+            answer: *answer,
+        };
+        let got = p.step(&event, cells.as_mut_slice());
         same(rt, got, *says, cells.as_slice(), after);
     }
     Ok(())

@@ -1,4 +1,5 @@
-// Policy files for the tests, and what a reading of them answers.
+// Policy files for the tests, and what a reading of them answers. What stands under `cfg(test)` is seen
+// in its own crate alone, so each crate of tests has its files.
 use model::{PolicyKind, Refusal};
 use policy::policy_kind;
 use std::alloc::{AllocError, Global};
@@ -84,10 +85,11 @@ pub(crate) fn answer(file: &[u8]) -> (u8, usize) {
 // A file with some of its bytes changed: in turn an offset and its new byte.
 pub(crate) fn changed<const N: usize>(file: &[u8; N], changes: &[u8]) -> [u8; N] {
     let mut file = *file;
-    for c in changes.chunks_exact(2) {
-        let at = usize::from(c[0]);
-        if at < N {
-            file[at] = c[1];
+    for change in changes.chunks_exact(2) {
+        if let [at, byte] = change
+            && let Some(b) = file.get_mut(usize::from(*at))
+        {
+            *b = *byte;
         }
     }
     file

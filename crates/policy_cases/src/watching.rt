@@ -1,7 +1,7 @@
 // A watch, event after event.
 use crate::asking::{AFTER, BEFORE, NO, RAISED, SHORT, Says, TAKEN, UNKNOWN, WIDE, same};
 use crate::files::R;
-use model::{Moment, Verdict};
+use model::{Event, Moment, Verdict};
 use policy::{Policy, Watch};
 use rules::Rules;
 use std::process::Abort;
@@ -52,28 +52,24 @@ const TURNS: &'static [Turn<'static>] = &[
 ];
 
 // What a watch answers to an event, or to begin, which says no more than that it worked.
-fn said<Q: Policy>(
-    watch: &mut Watch<Q>,
-    moment: Option<Moment>,
-    call: u8,
-    args: &[i32; 4],
-    answer: i32,
-    row: &mut [i32],
-) -> Says {
-    match moment {
-        Some(moment) => watch.judge(moment, call, args, answer, row),
-        None => {
-            watch.begin(row)?;
-            Ok(Verdict::Taken)
-        }
+fn said<Q: Policy>(watch: &mut Watch<Q>, event: Option<Event>, row: &mut [i32]) -> Says {
+    match event {
+        Some(event) => watch.judge(&event, row),
+        None => watch.begin(row).map(|_| Verdict::Taken),
     }
 }
 
 // Turn after turn, in one row. No turn expects what a row with less room would say.
 fn turns<Q: Policy>(rt: &impl Abort, watch: &mut Watch<Q>, row: &mut [i32], cases: &[Turn]) {
     for (moment, call, args, answer, room, says, after) in cases {
+        let event = moment.map(|moment| Event {
+            moment,
+            call: *call,
+            args: *args,
+            answer: *answer,
+        });
         let got = match row.get_mut(..*room) {
-            Some(cells) => said(watch, *moment, *call, args, *answer, cells),
+            Some(cells) => said(watch, event, cells),
             None => WIDE,
         };
         same(rt, got, *says, row, after);

@@ -1,6 +1,6 @@
-// Policy files for the tests, and what a reading of them answers.
+// Policy files for the tests, and what a reading of them answers. What stands under `cfg(test)` is seen
+// in its own crate alone, so each crate of tests has its files.
 use model::Refusal;
-use std::alloc::{AllocError, Global};
 
 // The policy P: one cell, which starts at 0. Call 5 before: if a0 < 10, s0 becomes s0 + a0. The head
 // stands at 0, the starts at 5, the rule at 12, its guard at 17 and its update at 29.
@@ -21,92 +21,13 @@ pub fn told(answer: Result<(), Refusal>) -> (u8, usize) {
     }
 }
 
-// P with some of its bytes changed.
-pub fn changed_p(changes: &[(usize, u8)]) -> [u8; 42] {
-    let mut file = *P;
-    for c in changes {
-        if c.0 < 42 {
-            file[c.0] = c.1;
+// A file with some of its bytes changed, each by its offset.
+pub fn changed<const N: usize>(file: &[u8; N], changes: &[(usize, u8)]) -> [u8; N] {
+    let mut file = *file;
+    for (at, byte) in changes {
+        if let Some(b) = file.get_mut(*at) {
+            *b = *byte;
         }
     }
     file
-}
-
-// L with some of its bytes changed.
-pub fn changed_l(changes: &[(usize, u8)]) -> [u8; 20] {
-    let mut file = *L;
-    for c in changes {
-        if c.0 < 20 {
-            file[c.0] = c.1;
-        }
-    }
-    file
-}
-
-// A tag and a length.
-fn begin(file: &mut Vec<u8>, tag: u8, length: usize) -> Result<(), AllocError> {
-    file.push(tag)?;
-    file.push((length / 256 % 256) as u8)?;
-    file.push((length % 256) as u8)?;
-    Ok(())
-}
-
-// The head and the starts of rules over so many cells, which all start at 7.
-pub fn rules(heap: Global, cells: u8) -> Result<Vec<u8>, AllocError> {
-    let mut file = [65, 0, 2, 1, cells].to_vec(heap)?;
-    begin(&mut file, 66, usize::from(cells).saturating_mul(4))?;
-    for _ in 0..cells {
-        file.extend_from_slice(&[0, 0, 0, 7])?;
-    }
-    Ok(file)
-}
-
-// An expression that holds up to so many ones and adds them, and then adds ones one by one until it
-// has so many tokens.
-pub fn sum(heap: Global, held: usize, tokens: usize) -> Result<Vec<u8>, AllocError> {
-    let mut e = [].to_vec(heap)?;
-    let first = held.saturating_mul(2).saturating_sub(1);
-    for i in 0..tokens {
-        let one = i < held || (i >= first && i % 2 == 1);
-        e.extend_from_slice(if one { &[0, 0, 1] } else { &[3, 0, 0] })?;
-    }
-    Ok(e)
-}
-
-// A rule with a guard, and so many times an update of cell 0.
-pub fn rule(
-    file: &mut Vec<u8>,
-    call: u8,
-    moment: u8,
-    guard: &[u8],
-    updates: usize,
-    value: &[u8],
-) -> Result<(), AllocError> {
-    let each = value.len().saturating_add(4);
-    let all = each.saturating_mul(updates).saturating_add(guard.len());
-    begin(file, 67, all.saturating_add(5))?;
-    file.push(call)?;
-    file.push(moment)?;
-    begin(file, 68, guard.len())?;
-    file.extend_from_slice(guard)?;
-    for _ in 0..updates {
-        begin(file, 69, value.len().saturating_add(1))?;
-        file.push(0)?;
-        file.extend_from_slice(value)?;
-    }
-    Ok(())
-}
-
-// The head of a table of so many states that starts in the last of them.
-pub fn table(heap: Global, states: u8) -> Result<Vec<u8>, AllocError> {
-    [97, 0, 3, 1, states, states.saturating_sub(1)].to_vec(heap)
-}
-
-// A row of a table.
-pub fn row(file: &mut Vec<u8>, call: u8, moment: u8, nexts: &[u8]) -> Result<(), AllocError> {
-    begin(file, 98, nexts.len().saturating_add(2))?;
-    file.push(call)?;
-    file.push(moment)?;
-    file.extend_from_slice(nexts)?;
-    Ok(())
 }

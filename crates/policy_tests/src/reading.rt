@@ -1,5 +1,5 @@
 // Reading policy files: fields, sizes, expressions and double rows, each refusal with its place.
-use crate::files::{L, P, changed_l, changed_p, told};
+use crate::files::{L, P, changed, told};
 use model::{PolicyKind, Refusal};
 use policy::policy_kind;
 use tables::Table;
@@ -55,15 +55,21 @@ const CHANGES_OF_P: [(&'static [(usize, u8)], u8, usize); 40] = [
 #[test]
 fn changes_of_p(rt: HostRuntime) {
     for (bytes, number, place) in CHANGES_OF_P {
-        assert_eq!(rt; told(rules::check(&changed_p(bytes))), (number, place));
+        assert_eq!(rt; told(rules::check(&changed(P, bytes))), (number, place));
     }
     assert_eq!(rt; told(rules::check(P)), (0, 0));
     // the answer behind a call, the fourth argument before it, and the smallest constant
-    assert_eq!(rt; told(rules::check(&changed_p(&[(16, 1), (22, 4)]))), (0, 0));
-    assert_eq!(rt; told(rules::check(&changed_p(&[(16, 2), (38, 4)]))), (0, 0));
-    assert_eq!(rt; told(rules::check(&changed_p(&[(22, 3)]))), (0, 0));
     assert_eq!(rt;
-        told(rules::check(&changed_p(&[(24, 128), (25, 0)]))),
+        told(rules::check(&changed(P, &[(16, 1), (22, 4)]))),
+        (0, 0)
+    );
+    assert_eq!(rt;
+        told(rules::check(&changed(P, &[(16, 2), (38, 4)]))),
+        (0, 0)
+    );
+    assert_eq!(rt; told(rules::check(&changed(P, &[(22, 3)]))), (0, 0));
+    assert_eq!(rt;
+        told(rules::check(&changed(P, &[(24, 128), (25, 0)]))),
         (0, 0)
     );
 }
@@ -115,12 +121,15 @@ const CHANGES_OF_L: [(&'static [(usize, u8)], u8, usize); 21] = [
 #[test]
 fn changes_of_l(rt: HostRuntime) {
     for (bytes, number, place) in CHANGES_OF_L {
-        assert_eq!(rt; told(Table::check(&changed_l(bytes))), (number, place));
+        assert_eq!(rt; told(Table::check(&changed(L, bytes))), (number, place));
     }
     assert_eq!(rt; told(Table::check(L)), (0, 0));
     // the same call at another moment, and the last start
-    assert_eq!(rt; told(Table::check(&changed_l(&[(16, 1), (17, 2)]))), (0, 0));
-    assert_eq!(rt; told(Table::check(&changed_l(&[(5, 1)]))), (0, 0));
+    assert_eq!(rt;
+        told(Table::check(&changed(L, &[(16, 1), (17, 2)]))),
+        (0, 0)
+    );
+    assert_eq!(rt; told(Table::check(&changed(L, &[(5, 1)]))), (0, 0));
 }
 
 // Where L is refused when it is cut to so many bytes; at 6 and 13 it reads.

@@ -1,6 +1,6 @@
 // Steps of rules and tables, one event at a time.
 use crate::files::{L, P};
-use model::{Moment, Refusal, Verdict};
+use model::{Event, Moment, Refusal, Verdict};
 use policy::Policy;
 use rules::Rules;
 use std::test::Fail;
@@ -25,22 +25,25 @@ const STEPS_OF_P: [(Moment, u8, i32, i32, bool, i32); 11] = [
 // One step in a row of two cells: whether the event is taken, and the row behind it.
 pub fn stepped<Q: Policy>(
     p: &Q,
-    moment: Moment,
-    call: u8,
-    args: [i32; 4],
-    answer: i32,
+    event: &Event,
     row: [i32; 2],
 ) -> Result<(bool, [i32; 2]), Refusal> {
     let mut cells = row;
-    let verdict = p.step(moment, call, &args, answer, &mut cells)?;
-    Ok((matches!(verdict, Verdict::Taken), cells))
+    let verdict = p.step(event, &mut cells)?;
+    Ok((verdict == Verdict::Taken, cells))
 }
 
 #[test]
 fn steps_of_p(rt: HostRuntime) -> Result<(), Fail> {
     let p = Rules::new(P);
     for (moment, call, a0, s0, taken, after) in STEPS_OF_P {
-        let got = stepped(&p, moment, call, [a0, 0, 0, 0], 10, [s0, 77])?;
+        let event = Event {
+            moment,
+            call,
+            args: [a0, 0, 0, 0],
+            answer: 10,
+        };
+        let got = stepped(&p, &event, [s0, 77])?;
         assert_eq!(rt; got, (taken, [after, 77]));
     }
     Ok(())
@@ -67,7 +70,13 @@ const STEPS_OF_L: [(Moment, u8, i32, bool, i32); 11] = [
 fn steps_of_l(rt: HostRuntime) -> Result<(), Fail> {
     let l = Table::new(L);
     for (moment, call, state, taken, after) in STEPS_OF_L {
-        let got = stepped(&l, moment, call, [1, 2, 3, 4], 5, [state, 77])?;
+        let event = Event {
+            moment,
+            call,
+            args: [1, 2, 3, 4],
+            answer: 5,
+        };
+        let got = stepped(&l, &event, [state, 77])?;
         assert_eq!(rt; got, (taken, [after, 77]));
     }
     Ok(())

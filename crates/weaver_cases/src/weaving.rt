@@ -1,26 +1,19 @@
 // Woven files, refusals, and what the area holds afterwards.
-use crate::files::{
-    A, L, LEAPS, LEAPS_WOVEN, P, WOVEN, Z, answer, changed, hosts, long_rules, many_cells, told,
-};
+use crate::files::{LEAPS, LEAPS_WOVEN, Z, long_rules, many_cells};
 use policy::Pair;
 use rules::Rules;
 use std::test::Fail;
 use tables::Table;
 use weaver::weave;
+use weaver_tests::files::{A, L, P, WOVEN, answer, changed, hosts, told};
 
 // The woven file stands at the front of the area, and the rest stays.
 #[test]
 fn example(rt: HostRuntime) {
     let mut area = [0xeeu8; 100];
     assert_eq!(rt; told(weave(&Rules::new(P), A, &mut area)), (0, 91));
-    for (i, b) in WOVEN.iter().enumerate() {
-        if i < 100 {
-            assert_eq!(rt; area[i], *b);
-        }
-    }
-    for b in &area[91..] {
-        assert_eq!(rt; *b, 0xee);
-    }
+    assert!(rt; area.starts_with(WOVEN));
+    assert!(rt; area.ends_with(&[0xee; 9]));
 }
 
 // Exactly enough room, and one byte too few, which leaves the area as it was.
@@ -30,9 +23,7 @@ fn room(rt: HostRuntime) {
     assert_eq!(rt; told(weave(&Rules::new(P), A, &mut enough)), (0, 91));
     let mut short = [7u8; 90];
     assert_eq!(rt; told(weave(&Rules::new(P), A, &mut short)), (1, 0));
-    for b in &short {
-        assert_eq!(rt; *b, 7);
-    }
+    assert!(rt; short == [7; 90]);
 }
 
 // A calls nothing that L watches, and with 1 in place of call 5 it does. That block has seven

@@ -11,14 +11,8 @@ use weaver::weave;
 fn example(rt: HostRuntime) {
     let mut area = [0xeeu8; 100];
     assert_eq!(rt; told(weave(&Rules::new(P), A, &mut area)), (0, 91));
-    for (i, b) in WOVEN.iter().enumerate() {
-        if i < 100 {
-            assert_eq!(rt; area[i], *b);
-        }
-    }
-    for b in &area[91..] {
-        assert_eq!(rt; *b, 0xee);
-    }
+    assert!(rt; area.starts_with(WOVEN));
+    assert!(rt; area.ends_with(&[0xee; 9]));
 }
 
 // Exactly enough room, and one byte too few, which leaves the area as it was.
@@ -28,9 +22,7 @@ fn room(rt: HostRuntime) {
     assert_eq!(rt; told(weave(&Rules::new(P), A, &mut enough)), (0, 91));
     let mut short = [7u8; 90];
     assert_eq!(rt; told(weave(&Rules::new(P), A, &mut short)), (1, 0));
-    for b in &short {
-        assert_eq!(rt; *b, 7);
-    }
+    assert!(rt; short == [7; 90]);
 }
 
 // A calls nothing that L watches, and with 1 in place of call 5 it does. That block has seven
@@ -75,11 +67,11 @@ fn filled(rt: HostRuntime) {
 // A site of P has 16 instructions: 255 of them and END are 4,081, and 256 are one too many.
 #[test]
 fn limits(rt: HostRuntime) -> Result<(), Fail> {
-    assert_eq!(rt; answer(&hosts(rt.alloc(), 1, 255)?), (0, 16343));
-    assert_eq!(rt; answer(&hosts(rt.alloc(), 1, 256)?), (15, 12));
-    assert_eq!(rt; answer(&hosts(rt.alloc(), 2, 256)?), (15, 12));
+    assert_eq!(rt; answer(&hosts(rt.alloc(), 1, &[(255, 1)])?), (0, 16343));
+    assert_eq!(rt; answer(&hosts(rt.alloc(), 1, &[(256, 1)])?), (15, 12));
+    assert_eq!(rt; answer(&hosts(rt.alloc(), 1, &[(256, 1); 2])?), (15, 12));
     // 16 + 4 × 16,327 = 65,324 bytes; five methods of 209 sites are 66,971
-    assert_eq!(rt; answer(&hosts(rt.alloc(), 4, 255)?), (0, 65324));
-    assert_eq!(rt; answer(&hosts(rt.alloc(), 5, 209)?), (16, 0));
+    assert_eq!(rt; answer(&hosts(rt.alloc(), 1, &[(255, 1); 4])?), (0, 65324));
+    assert_eq!(rt; answer(&hosts(rt.alloc(), 1, &[(209, 1); 5])?), (16, 0));
     Ok(())
 }

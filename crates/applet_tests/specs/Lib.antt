@@ -1,0 +1,2 @@
+-- what a reading answers
+pub mod Answers
