@@ -14,7 +14,7 @@ pub const L: &'static [u8; 20] =
     b"a\x00\x03\x01\x02\x00b\x00\x04\x01\x00\x01\xffb\x00\x04\x02\x00\xff\x00";
 
 // A refusal's number and place, zeros where there is none.
-pub fn told(answer: Result<(), Refusal>) -> (u8, usize) {
+pub(crate) fn told(answer: Result<(), Refusal>) -> (u8, usize) {
     match answer {
         Ok(()) => (0, 0),
         Err(r) => (r.number(), r.place()),
@@ -22,7 +22,7 @@ pub fn told(answer: Result<(), Refusal>) -> (u8, usize) {
 }
 
 // A file with some of its bytes changed, each by its offset.
-pub fn changed<const N: usize>(file: &[u8; N], changes: &[(usize, u8)]) -> [u8; N] {
+pub(crate) fn changed<const N: usize>(file: &[u8; N], changes: &[(usize, u8)]) -> [u8; N] {
     let mut file = *file;
     for (at, byte) in changes {
         if let Some(b) = file.get_mut(*at) {

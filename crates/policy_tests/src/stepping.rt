@@ -23,7 +23,7 @@ const STEPS_OF_P: [(Moment, u8, i32, i32, bool, i32); 11] = [
 ];
 
 // One step in a row of two cells: whether the event is taken, and the row behind it.
-pub fn stepped<Q: Policy>(
+pub(crate) fn stepped<Q: Policy>(
     p: &Q,
     event: &Event,
     row: [i32; 2],
