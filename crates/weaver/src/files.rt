@@ -1,9 +1,9 @@
 // Woven files.
-ghost use Rattle.std.specs.Prelude.{◌≡◌, ◌+◌, ◌*◌, ◌≤◌, length, map, take};
+ghost use Rattle.std.specs.Prelude.{◌≡◌, ◌+◌, ◌*◌, ◌≤◌, length, map, take, Ok};
 ghost use Rattle.std.specs.List.{AllByRecursion};
 ghost use Rattle.model.specs.Fields.{field};
-ghost use Rattle.model.specs.Reading.{write_applet, write_code, write_codes, instr_place};
-ghost use Rattle.model.specs.Files.{plain_codes, plain_of};
+ghost use Rattle.model.specs.Reading.{write_applet, write_code, write_codes};
+ghost use Rattle.model.specs.Files.{plain_of};
 ghost use Rattle.model.specs.Words.{flat, quad_of};
 ghost use Rattle.applet.specs.Applets.{meant};
 ghost use Rattle.weaver.specs.Pieces.{own_code, woven_code};
@@ -21,26 +21,6 @@ use policy::Policy;
 use tlv::Part;
 
 impl<P: Policy> Weaving<'_, P> {
-    // Refuses the first instruction of all methods that is none of the applet's own.
-    fn plain_methods(&self) -> Result<(), Refusal>
-        ensures { result ≡ forget (plain_codes (instr_place (meant self.now.applet.now)) 0 (meant self.now.applet.now).methods) }
-    {
-        for method in Methods::of(self.applet) {
-            method.plain(self.applet.methods())?;
-        }
-        Ok(())
-    }
-
-    // Refuses an applet that has cells or an instruction that is none of the applet's own.
-    fn plain(&self) -> Result<(), Refusal>
-        ensures { result ≡ forget (plain_of (meant self.now.applet.now)) }
-    {
-        if self.applet.starts() > 0 {
-            return Err(Refusal::NotPlain(8 + self.applet.entries().len()));
-        }
-        self.plain_methods()
-    }
-
     // The length of the woven file, if each of its methods is within the limit.
     fn woven_len(&self, indices: &mut WovenIndices) -> Result<usize, Refusal>
         ensures { result ≡ woven_length (P.meaning self.now.policy.now) (P.blocks self.now.policy.now) (meant self.now.applet.now) }
@@ -129,12 +109,12 @@ impl<P: Policy> Weaving<'_, P> {
         self.put_methods(indices, pen);
     }
 
-    // Weaves the policy into the applet.
+    // Weaves the policy into the applet, which is plain.
     pub(crate) fn weave(&self, area: &mut [u8]) -> Result<usize, Refusal>
+        requires { Ok tt ≡ forget (plain_of (meant self.now.applet.now)) }
         ensures answer { result ≡ woven_answer (P.meaning self.now.policy.now) (P.blocks self.now.policy.now) (meant self.now.applet.now) area.old }
         ensures area { area.new ≡ woven_area (P.meaning self.now.policy.now) (P.blocks self.now.policy.now) (meant self.now.applet.now) area.old }
     {
-        self.plain()?;
         let mut indices = WovenIndices::new();
         let len = self.woven_len(&mut indices)?;
         if len > 65535 {

@@ -6,6 +6,7 @@ ghost use Rattle.model.specs.Areas.{weave_answer, weave_area};
 ghost use Rattle.model.specs.Stripping.{Stripped};
 
 use applet::Applet;
+use methods::plain_applet;
 use model::Refusal;
 use policy::{Policy, limits};
 use weaving::Weaving;
@@ -28,5 +29,6 @@ pub fn weave<P: Policy>(policy: &P, plain: &[u8], area: &mut [u8]) -> Result<usi
 {
     limits(policy)?;
     let applet = Applet::read(plain)?;
+    plain_applet(&applet)?;
     Weaving::new(policy, &applet).weave(area)
 }

@@ -1,6 +1,8 @@
 // The methods of an applet.
 ghost use Rattle.std.specs.Prelude.{◌≡◌, ◌+◌, ◌*◌, ◌≤◌, not, length, position};
-ghost use Rattle.model.specs.Files.{plain_code};
+ghost use Rattle.model.specs.Reading.{instr_place};
+ghost use Rattle.model.specs.Files.{plain_code, plain_codes, plain_of};
+ghost use Rattle.applet.specs.Applets.{meant};
 ghost use Rattle.weaver.specs.Pieces.{instr_in, instrs};
 ghost use Rattle.weaver.specs.Weaves.{is_own, forget, Sound};
 ghost use Rattle.std.proofs.Props.{props};
@@ -73,4 +75,26 @@ impl Method<'_> {
             None => Ok(()),
         }
     }
+}
+
+// Refuses the first instruction of all methods that is none of the applet's own.
+fn plain_methods(applet: &Applet<'_>) -> Result<(), Refusal>
+    requires { Sound applet.now }
+    ensures { result ≡ forget (plain_codes (instr_place (meant applet.now)) 0 (meant applet.now).methods) }
+{
+    for method in Methods::of(applet) {
+        method.plain(applet.methods())?;
+    }
+    Ok(())
+}
+
+// Refuses an applet that has cells or an instruction that is none of the applet's own.
+pub(crate) fn plain_applet(applet: &Applet<'_>) -> Result<(), Refusal>
+    requires { Sound applet.now }
+    ensures { result ≡ forget (plain_of (meant applet.now)) }
+{
+    if applet.starts() > 0 {
+        return Err(Refusal::NotPlain(8 + applet.entries().len()));
+    }
+    plain_methods(applet)
 }
