@@ -99,6 +99,8 @@ impl<'a> Policy for Rules<'a> {
         Ok(step_cells(rules, width, event, &mut row[..usize::from(width)]))
     }
 
+    // `limits` asks this 192 times, and is a third slower where it is a call of its own.
+    #[inline(always)]
     fn block_len(&self, call: u8, moment: Moment) -> u16 {
         let rules = self.rules_for(call, moment);
         u16::try_from(block_len(rules, call, moment)).unwrap_or(u16::MAX)
